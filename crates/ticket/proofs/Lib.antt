@@ -1,0 +1,9 @@
+pub mod Chains
+pub mod Degrees
+pub mod ByKind
+pub mod Turns
+pub mod Bytes
+pub mod Listed
+pub mod Sound
+pub mod Complete
+pub mod Exact
