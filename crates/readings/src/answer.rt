@@ -1,6 +1,6 @@
 // The answer to one ticket: what the table expects, and what the library gives.
 ghost use mathlib.Core.Path.{_≡_};
-ghost use Rattle.readings.specs.Answers.{place-of, answer-of, place-text, answer-text};
+ghost use Rattle.readings.specs.Answers.{place-of, answer-of, Told, place-text, answer-text};
 ghost use Rattle.std.specs.declared.option.Option.the-variants.{Some};
 use super::bad_line::BadLine;
 use super::bad_line::BadLineFromParse;
@@ -29,7 +29,9 @@ pub enum Answer {
 
 impl Answer {
     // What the library says of some bytes.
-    pub(crate) fn of(heap: Global, bytes: &[u8]) -> Answer {
+    pub(crate) fn of(heap: Global, bytes: &[u8]) -> Answer
+        ensures { λ r. ⌜ Told (now (bytes .entry)) r ⌝ }
+    {
         match Reader::new(bytes).ticket(heap) {
             Ok(_) => Answer::Read,
             Err(Failure::Refused(fault)) => Answer::of_fault(fault),

@@ -5,3 +5,4 @@ pub mod Encoding
 pub mod Reading
 pub mod Drafts
 pub mod Law
+pub mod Text

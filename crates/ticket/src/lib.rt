@@ -14,6 +14,7 @@ mod parts;
 mod reader;
 mod reading;
 mod records;
+mod text;
 mod ticket;
 
 pub use failure::Failure;
@@ -24,4 +25,6 @@ pub use reader::Reader;
 pub use records::Axis;
 pub use records::Relation;
 pub use records::Term;
+pub use text::FaultDisplay;
+pub use text::LayerDisplay;
 pub use ticket::Ticket;
