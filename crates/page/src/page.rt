@@ -1,7 +1,6 @@
 // A whole ticket as text.
 ghost use denote.Ref.{now};
 ghost use mathlib.Core.Path.{_≡_};
-ghost use Rattle.std.specs.Of.Vec.{vec-items};
 ghost use Rattle.std.specs.declared.option.Option.the-variants.{Some};
 ghost use Rattle.page.specs.Text.{axes-text, counted-text, record-count, records-text, page-text};
 use super::axis::AxisLine;

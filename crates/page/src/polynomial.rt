@@ -1,6 +1,5 @@
 // The polynomial of a ticket as text.
 ghost use denote.Ref.{now};
-ghost use lib.IntN.{ℤ};
 ghost use mathlib.Core.Path.{_≡_};
 ghost use Rattle.std.specs.declared.option.Option.the-variants.{Some};
 ghost use Rattle.page.specs.Text.{sign-text, drift-text, summand-text, terms-text, polynomial-text};

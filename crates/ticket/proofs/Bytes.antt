@@ -9,7 +9,7 @@ use lib.Bits.{bitAnd}
 use lib.Dec.{eqb, leb}
 use lib.IntN.{ℤ, pos, negsuc}
 use mir.Syntax.{w32}
-use mir.Val.{toZ, ofZ, SFits, Fits}
+use mir.Val.{toZ, ofZ, SFits}
 use mir.ValLaws.{toZ-fits}
 use Rattle.std.proofs.shelf.Signed.{toZ-ofZ, ofZ-toZ}
 use Rattle.std.proofs.shelf.Tests.{and-parts, eqb-true, leb-true, le-leb, cases-lt, false≢true}

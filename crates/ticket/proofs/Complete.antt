@@ -1,24 +1,22 @@
 -- The encoding of every well-formed ticket is read as that ticket.
-use mathlib.Core.Path.{_≡_, refl, sym, ap, subst, _∙_}
-use mathlib.Core.Bool.{Bool, true, false, not, _&&_, cond}
+use mathlib.Core.Path.{_≡_, refl, sym, ap, _∙_}
+use mathlib.Core.Bool.{Bool, true, _&&_}
 use mathlib.Core.List.{List, [], _∷_, _++_}
-use Prim.Native.Nat.{ℕ, zero, suc, _+_, _*_, _-_, _/_, _%_, _<_, _≤_}
+use Prim.Native.Nat.{ℕ, suc, _+_, _*_, _-_, _/_, _%_, _<_, _≤_}
 use native.Mathlib.Omega.{arith}
-use lib.Bits.{bitAnd}
-use lib.Dec.{eqb, leb, ltb}
+use lib.Dec.{eqb, leb}
 use lib.IntN.{ℤ}
-use lib.ListN.{length, getD, drop, take}
+use lib.ListN.{length, drop, take}
 use lib.Signed.{ltZ}
 use Rattle.std.proofs.shelf.Lists.{append-nil, append-assoc, length-append, length-push}
 use Rattle.std.proofs.shelf.Tests.{and-parts, eqb-true, leb-true, le-leb, lt-ltb, eq-eqb}
-use Rattle.std.specs.declared.option.Option.{Option}
-use Rattle.std.specs.declared.option.Option.the-variants.{Some, None}
+use Rattle.std.specs.declared.option.Option.the-variants.{None}
 use Rattle.std.specs.declared.result.Result.{Result}
-use Rattle.std.specs.declared.result.Result.the-variants.{Ok, Err}
+use Rattle.std.specs.declared.result.Result.the-variants.{Ok}
 use Rattle.ticket.specs.Encoding.{axis-bytes, term-bytes, question-bytes, axes-bytes, terms-bytes, encoded}
 use Rattle.ticket.specs.Faults.{fault, checked, next, each-checked}
-use Rattle.ticket.specs.Numbers.{is-degree, is-end, is-depth, whole, four-bytes, fits-four-bytes, lower-flag, upper-flag, flags, relation-number, relation-of}
-use Rattle.ticket.specs.Reading.{zeros, exponents, axis-of, term-of, question-of, known, Seen, nothing, added, axis-in-turn, term-in-turn, question-in-turn, axis-record, term-record, question-record, record-of, records-of, ticket-of, finished, is-length, reading}
+use Rattle.ticket.specs.Numbers.{is-degree, is-end, is-depth, whole, four-bytes, fits-four-bytes, flags}
+use Rattle.ticket.specs.Reading.{exponents, axis-of, term-of, question-of, known, Seen, nothing, added, axis-record, term-record, question-record, record-of, records-of, finished, is-length, reading}
 use Rattle.ticket.specs.WellFormed.{Content, degree-at, all, axis-formed, exponents-formed, term-formed, Formed}
 use Rattle.ticket.specs.declared.fault.Fault.{Fault}
 use Rattle.ticket.specs.declared.fault.Refusal.the-variants.{Length, Turn, NotZero, Degree, End, Exponent, Relation as NoRelation, Depth}
@@ -26,7 +24,6 @@ use Rattle.ticket.specs.declared.records.Axis.{Axis}
 use Rattle.ticket.specs.declared.records.Term.{Term}
 use Rattle.ticket.specs.declared.records.Relation.{Relation}
 use Rattle.ticket.specs.declared.records.Question.{Question}
-use Rattle.ticket.specs.declared.records.Record.{Record}
 use Rattle.ticket.specs.declared.records.Record.the-variants.{Axis as IsAxis, Term as IsTerm, Question as IsQuestion}
 use Rattle.ticket.proofs.Bytes.{flags-blank, lower-back, upper-back, whole-four, relation-back, end-fits}
 use Rattle.ticket.proofs.Listed.{both, by-four}

@@ -8,7 +8,6 @@ use Rattle.std.proofs.shelf.Results.{err-from-errBy}
 use Rattle.std.specs.Results.{ErrBy}
 use Rattle.std.specs.declared.result.Result.{Result}
 use Rattle.std.specs.declared.result.Result.the-variants.{Ok, Err}
-use Rattle.ticket.specs.Encoding.{encoded}
 use Rattle.ticket.specs.Drafts.{seen}
 use Rattle.ticket.specs.Law.{Answers, Encodes, Exactly, Unambiguous}
 use Rattle.ticket.specs.Numbers.{Bytes}

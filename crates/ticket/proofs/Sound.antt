@@ -9,8 +9,8 @@ use lib.Bits.{bitAnd}
 use lib.Dec.{eqb, leb, ltb}
 use lib.ListN.{length, getD, drop, take}
 use lib.Signed.{ltZ}
-use Rattle.std.proofs.shelf.Lists.{append-nil, append-assoc, length-append, length-take-le, length-drop, take-append-drop, getD-take, getD-drop, getD-past, nil-from-length, length-push}
-use Rattle.std.proofs.shelf.Tests.{and-parts, eqb-true, leb-true, ltb-true, le-leb, cases-lt}
+use Rattle.std.proofs.shelf.Lists.{append-nil, append-assoc, length-take-le, length-drop, take-append-drop, getD-take, getD-drop, getD-past, nil-from-length, length-push}
+use Rattle.std.proofs.shelf.Tests.{and-parts, eqb-true, ltb-true, le-leb, cases-lt}
 use Rattle.std.specs.Options.{isSome}
 use Rattle.std.specs.declared.option.Option.{Option}
 use Rattle.std.specs.declared.option.Option.the-variants.{Some, None}
@@ -19,20 +19,19 @@ use Rattle.std.specs.declared.result.Result.the-variants.{Ok, Err}
 use Rattle.ticket.specs.Encoding.{axis-bytes, term-bytes, question-bytes, axes-bytes, terms-bytes, encoded}
 use Rattle.ticket.specs.Faults.{fault, checked, next, each-checked}
 use Rattle.ticket.specs.Law.{Encodes}
-use Rattle.ticket.specs.Numbers.{Bytes, is-degree, is-end, is-depth, whole, four-bytes, fits-four-bytes, lower-flag, upper-flag, flags, relation-number, relation-of}
-use Rattle.ticket.specs.Reading.{zeros, exponents, axis-of, term-of, question-of, known, Seen, nothing, added, axis-in-turn, term-in-turn, question-in-turn, four, axis-record, term-record, question-record, by-kind, record-of, records-of, ticket-of, finished, is-length, reading}
-use Rattle.ticket.specs.WellFormed.{Content, degree-at, all, axis-formed, exponents-formed, term-formed, well-formed, Formed}
+use Rattle.ticket.specs.Numbers.{Bytes, is-degree, is-end, is-depth, whole, lower-flag, upper-flag, relation-number, relation-of}
+use Rattle.ticket.specs.Reading.{zeros, exponents, axis-of, term-of, question-of, known, Seen, nothing, added, axis-in-turn, term-in-turn, question-in-turn, four, axis-record, term-record, question-record, record-of, records-of, ticket-of, finished, is-length, reading}
+use Rattle.ticket.specs.WellFormed.{Content, degree-at, all, axis-formed, exponents-formed, term-formed, Formed}
 use Rattle.ticket.specs.declared.fault.Fault.{Fault}
 use Rattle.ticket.specs.declared.fault.Refusal.the-variants.{Length, Turn, NotZero, Degree, End, Exponent, Relation as NoRelation, Depth}
 use Rattle.ticket.specs.declared.records.Axis.{Axis}
 use Rattle.ticket.specs.declared.records.Term.{Term}
-use Rattle.ticket.specs.declared.records.Relation.{Relation}
 use Rattle.ticket.specs.declared.records.Question.{Question}
 use Rattle.ticket.specs.declared.records.Record.{Record}
 use Rattle.ticket.specs.declared.records.Record.the-variants.{Axis as IsAxis, Term as IsTerm, Question as IsQuestion}
 use Rattle.ticket.proofs.Bytes.{flags-back, whole-fits, four-whole, relation-from}
 use Rattle.ticket.proofs.Chains.{void}
-use Rattle.ticket.proofs.Listed.{both, all-push, by-none, by-four, by-four-more}
+use Rattle.ticket.proofs.Listed.{both, all-push, by-four, by-four-more}
 
 -- ---- chains that went through
 pub next-ok : {X Y : Type 0} (r : Result X Fault) (f : X → Result Y Fault) (y : Y) → next r f ≡ Ok y → (x : X) × (r ≡ Ok x) × (f x ≡ Ok y)

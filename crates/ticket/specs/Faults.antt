@@ -6,7 +6,7 @@ use Rattle.std.specs.declared.result.Result.{Result}
 use Rattle.std.specs.declared.result.Result.the-variants.{Ok, Err}
 use Rattle.ticket.specs.declared.fault.Fault.{Fault}
 use Rattle.ticket.specs.declared.fault.Layer.{Layer}
-use Rattle.ticket.specs.declared.fault.Layer.the-variants.{Reader, Sizing, Workspace}
+use Rattle.ticket.specs.declared.fault.Layer.the-variants.{Reader}
 use Rattle.ticket.specs.declared.fault.Refusal.{Refusal}
 use Rattle.ticket.specs.declared.fault.Refusal.the-variants.{Length, Turn, NotZero, Degree, End, Exponent, Relation, Depth}
 

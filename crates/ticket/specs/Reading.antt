@@ -1,8 +1,7 @@
 -- What is read of any bytes: a ticket, or the first fault in the order of the rules. Records come in file order; within a record the lower refusal comes first, then the lower byte.
-use mathlib.Core.Path.{_≡_}
-use mathlib.Core.Bool.{Bool, true, false, not, _&&_, cond}
+use mathlib.Core.Bool.{Bool, not, _&&_, cond}
 use mathlib.Core.List.{List, [], _∷_, _++_}
-use Prim.Native.Nat.{ℕ, zero, suc, _+_, _-_, _*_, _/_, _%_}
+use Prim.Native.Nat.{ℕ, zero, suc, _+_, _-_, _/_, _%_}
 use lib.Bits.{bitAnd}
 use lib.Dec.{eqb, leb, ltb}
 use lib.ListN.{length, getD, drop, take}
@@ -19,7 +18,6 @@ use Rattle.ticket.specs.declared.fault.Fault.{Fault}
 use Rattle.ticket.specs.declared.fault.Refusal.the-variants.{Length, Turn, NotZero, Degree, End, Exponent, Relation as NoRelation, Depth}
 use Rattle.ticket.specs.declared.records.Axis.{Axis}
 use Rattle.ticket.specs.declared.records.Term.{Term}
-use Rattle.ticket.specs.declared.records.Relation.{Relation}
 use Rattle.ticket.specs.declared.records.Question.{Question}
 use Rattle.ticket.specs.declared.records.Record.{Record}
 use Rattle.ticket.specs.declared.records.Record.the-variants.{Axis as IsAxis, Term as IsTerm, Question as IsQuestion}

@@ -1,7 +1,7 @@
 // How a draft grows: which record may come next, and what it adds.
 ghost use mathlib.Core.Bool.{true};
 ghost use mathlib.Core.Path.{_≡_};
-ghost use Prim.Native.Nat.{ℕ, _<_};
+ghost use Prim.Native.Nat.{_<_};
 ghost use Rattle.ticket.specs.Drafts.{seen, Room};
 ghost use Rattle.ticket.specs.Reading.{nothing, added, axis-in-turn, term-in-turn, question-in-turn};
 ghost use Rattle.ticket.specs.WellFormed.{degree-at};

@@ -1,7 +1,7 @@
 // The parts of one record, each checked at its place.
 ghost use mathlib.Core.Path.{_≡_};
 ghost use lib.ListN.{length};
-ghost use Prim.Native.Nat.{ℕ, _≤_, _<_};
+ghost use Prim.Native.Nat.{_≤_, _<_};
 ghost use Rattle.ticket.specs.Drafts.{seen};
 ghost use Rattle.ticket.specs.Numbers.{is-degree, is-end, relation-of};
 ghost use Rattle.ticket.specs.Reading.{zeros as blank, exponents as fit, axis-of, term-of, question-of};

@@ -1,7 +1,7 @@
 // Reads a ticket out of lent bytes, record by record.
 ghost use mathlib.Core.Path.{_≡_};
-ghost use Prim.Native.Nat.{ℕ, _-_, _≤_};
-ghost use lib.ListN.{length, take, drop};
+ghost use Prim.Native.Nat.{_-_};
+ghost use lib.ListN.{length};
 ghost use Rattle.std.specs.Vec.{made};
 ghost use Rattle.ticket.specs.Drafts.{seen, Room, drafted};
 ghost use Rattle.ticket.specs.Law.{Answers, Exactly, Unambiguous, lent};

@@ -1,11 +1,8 @@
-use mathlib.Core.Path.{_≡_, sym, ap, _∙_}
-use Prim.Native.Nat.{_+_, _-_}
-use lib.Dec.{leb}
+use mathlib.Core.Path.{sym, _∙_}
+use Prim.Native.Nat.{_-_}
 use lib.ListN.{getD}
-use native.Mathlib.Omega.{arith}
 use borrow.Author.Needs.{needs}
 use Rattle.ticket.specs.Drafts.{seen}
-use Rattle.ticket.specs.WellFormed.{degree-at}
 use Rattle.ticket.proofs.Chains.{exit, told, from-start, from-stops, from-goes, from-end}
 use Rattle.ticket.proofs.Degrees.{at-byte}
 use Rattle.ticket.proofs.parts.exponents.Needs as need

@@ -1,4 +1,4 @@
-use mathlib.Core.Path.{_≡_, refl, sym, ap, _∙_}
+use mathlib.Core.Path.{refl, ap, _∙_}
 use Rattle.std.specs.declared.result.Result.the-variants.{Err}
 use Rattle.ticket.specs.Reading.{question-of}
 use Rattle.ticket.proofs.Chains.{through, stops, exit, found, missed}

@@ -1,4 +1,4 @@
-use mathlib.Core.Path.{_≡_, sym, _∙_}
+use mathlib.Core.Path.{sym, _∙_}
 use borrow.Author.Needs.{needs}
 use Rattle.ticket.proofs.Chains.{exit, from-start, from-stops, from-goes, from-end}
 use Rattle.ticket.proofs.parts.zeros.Needs as need

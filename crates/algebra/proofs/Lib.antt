@@ -1,0 +1,13 @@
+pub mod Integers
+pub mod Ring
+pub mod Powers
+pub mod Module
+pub mod Pair
+pub mod Signs
+pub mod Linear
+pub mod Binomial
+pub mod Bernstein
+pub mod Monomial
+pub mod Form
+pub mod Places
+pub mod Halves
