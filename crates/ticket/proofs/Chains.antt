@@ -16,10 +16,9 @@ use Rattle.std.specs.declared.option.Option.{Option}
 use Rattle.std.specs.declared.option.Option.the-variants.{Some, None}
 use Rattle.std.specs.declared.result.Result.{Result}
 use Rattle.std.specs.declared.result.Result.the-variants.{Ok, Err}
-use Rattle.ticket.specs.Faults.{next, checked, fault, each-checked}
+use Rattle.ticket.specs.Faults.{next, checked, each-checked}
 use Rattle.ticket.specs.Reading.{known}
 use Rattle.ticket.specs.declared.fault.Fault.{Fault}
-use Rattle.ticket.specs.declared.fault.Refusal.{Refusal}
 
 pub through : {X Y : Type 0} {r : Result X Fault} {x : X} (f : X → Result Y Fault) {s : Result Y Fault} → Ok x ≡ r → s ≡ f x → s ≡ next r f
 through f p q = q ∙ ap (λ r. next r f) p
@@ -53,30 +52,30 @@ passed false f x e = absurd (void (cc))
 pub sent : {x z : ℤ} → SFits w32 x → x ≡ z → toZ w32 (ofZ w32 x) ≡ z
 sent {x} f e = toZ-ofZ w32 x f ∙ e
 
--- ---- a loop over bytes, each checked in turn
-module _ (test : ℕ → ℕ → Bool) (why : Refusal) (n b : ℕ) (xs : List ℕ) where
-  -- the checks from byte i on
+-- ---- a loop over things numbered from b, each checked in turn
+module _ {X : Type 0} (test : ℕ → X → Bool) (fault-at : ℕ → Fault) (b : ℕ) (xs : List X) where
+  -- the checks from place i on
   abbrev pub from : ℕ → Result (Unit {0}) Fault
-  from i = each-checked test why n (b + i) (drop i xs)
+  from i = each-checked test fault-at (b + i) (drop i xs)
 
-  pub from-start : each-checked test why n b xs ≡ from 0
-  from-start = let e : b + 0 ≡ b = omega arith in ap (λ k. each-checked test why n k xs) (sym e)
+  pub from-start : each-checked test fault-at b xs ≡ from 0
+  from-start = let e : b + 0 ≡ b = omega arith in ap (λ k. each-checked test fault-at k xs) (sym e)
 
-  pub from-more : (i : ℕ) → i < length xs → from i ≡ next (checked (test (b + i) (getD xs i 0)) (fault why n (b + i))) (λ _. from (i + 1))
+  pub from-more : (d : X) (i : ℕ) → i < length xs → from i ≡ next (checked (test (b + i) (getD xs i d)) (fault-at (b + i))) (λ _. from (i + 1))
   unfolding each-checked
-  from-more i h =
+  from-more d i h =
       let e : b + i + 1 ≡ b + (i + 1) = omega arith in
-      ap (λ l. each-checked test why n (b + i) l) (drop-more xs i 0 h)
-      ∙ ap (λ k. next (checked (test (b + i) (getD xs i 0)) (fault why n (b + i))) (λ _. each-checked test why n k (drop (i + 1) xs))) e
+      ap (λ l. each-checked test fault-at (b + i) l) (drop-more xs i d h)
+      ∙ ap (λ k. next (checked (test (b + i) (getD xs i d)) (fault-at (b + i))) (λ _. each-checked test fault-at k (drop (i + 1) xs))) e
 
   pub from-end : (i : ℕ) → length xs ≤ i → Ok tt ≡ from i
   unfolding each-checked
-  from-end i h = ap (λ l. each-checked test why n (b + i) l) (sym (drop-all i xs h))
+  from-end i h = ap (λ l. each-checked test fault-at (b + i) l) (sym (drop-all i xs h))
 
-  -- the loop stops at a byte that fails
-  pub from-stops : {s : Result (Unit {0}) Fault} (i : ℕ) {e : Fault} → i < length xs → s ≡ from i → Err e ≡ checked (test (b + i) (getD xs i 0)) (fault why n (b + i)) → Err e ≡ s
-  from-stops i h inv p = stops _ p ∙ sym (from-more i h) ∙ sym inv
+  -- the loop stops at the first that fails
+  pub from-stops : {s : Result (Unit {0}) Fault} (d : X) (i : ℕ) {e : Fault} → i < length xs → s ≡ from i → Err e ≡ checked (test (b + i) (getD xs i d)) (fault-at (b + i)) → Err e ≡ s
+  from-stops d i h inv p = stops _ p ∙ sym (from-more d i h) ∙ sym inv
 
   -- and goes on after one that passes
-  pub from-goes : {s : Result (Unit {0}) Fault} (i : ℕ) {x : Unit {0}} → i < length xs → s ≡ from i → Ok x ≡ checked (test (b + i) (getD xs i 0)) (fault why n (b + i)) → s ≡ from (i + 1)
-  from-goes i h inv p = inv ∙ from-more i h ∙ sym (through _ p refl)
+  pub from-goes : {s : Result (Unit {0}) Fault} (d : X) (i : ℕ) {x : Unit {0}} → i < length xs → s ≡ from i → Ok x ≡ checked (test (b + i) (getD xs i d)) (fault-at (b + i)) → s ≡ from (i + 1)
+  from-goes d i h inv p = inv ∙ from-more d i h ∙ sym (through _ p refl)

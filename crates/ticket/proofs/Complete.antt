@@ -52,7 +52,7 @@ axis-reads n d l u lower upper a formed degree-is lower-is upper-is l-is u-is =
       «upper_open» = (upper-back l u ∙ sym u-is) i;
     } in x))))))
 
-exponents-read : (axes : List Axis) (n j : ℕ) (es : List ℕ) → exponents-formed axes j es ≡ true → each-checked (λ b e. leb e (degree-at axes (b - 1))) Exponent n (j + 1) es ≡ Ok tt
+exponents-read : (axes : List Axis) (n j : ℕ) (es : List ℕ) → exponents-formed axes j es ≡ true → each-checked (λ b e. leb e (degree-at axes (b - 1))) (fault Exponent n) (j + 1) es ≡ Ok tt
 unfolding each-checked
 exponents-read axes n j [] h = refl
 exponents-read axes n j (e ∷ es) h =

@@ -7,3 +7,5 @@ pub mod Listed
 pub mod Sound
 pub mod Complete
 pub mod Exact
+pub mod Caps
+pub mod SizedExit

@@ -53,7 +53,7 @@ zeros-ok n b [] x e k = refl
 zeros-ok n b (y ∷ ys) x e zero = let p = next-ok (checked (eqb y 0) (fault NotZero n b)) _ x e in eqb-true _ _ (checked-ok (eqb y 0) (fault NotZero n b) (p .0) (p .1))
 zeros-ok n b (y ∷ ys) x e (suc k) = let p = next-ok (checked (eqb y 0) (fault NotZero n b)) _ x e in zeros-ok n (b + 1) ys x (p .2) k
 
-pub exponents-ok : (axes : List Axis) (n j : ℕ) (es : List ℕ) (x : Unit {0}) → each-checked (λ b e. leb e (degree-at axes (b - 1))) Exponent n (j + 1) es ≡ Ok x → exponents-formed axes j es ≡ true
+pub exponents-ok : (axes : List Axis) (n j : ℕ) (es : List ℕ) (x : Unit {0}) → each-checked (λ b e. leb e (degree-at axes (b - 1))) (fault Exponent n) (j + 1) es ≡ Ok x → exponents-formed axes j es ≡ true
 unfolding each-checked
 exponents-ok axes n j [] x h = refl
 exponents-ok axes n j (e ∷ es) x h =

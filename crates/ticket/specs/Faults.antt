@@ -6,9 +6,9 @@ use Rattle.std.specs.declared.result.Result.{Result}
 use Rattle.std.specs.declared.result.Result.the-variants.{Ok, Err}
 use Rattle.ticket.specs.declared.fault.Fault.{Fault}
 use Rattle.ticket.specs.declared.fault.Layer.{Layer}
-use Rattle.ticket.specs.declared.fault.Layer.the-variants.{Reader}
+use Rattle.ticket.specs.declared.fault.Layer.the-variants.{Reader, Sizing}
 use Rattle.ticket.specs.declared.fault.Refusal.{Refusal}
-use Rattle.ticket.specs.declared.fault.Refusal.the-variants.{Length, Turn, NotZero, Degree, End, Exponent, Relation, Depth}
+use Rattle.ticket.specs.declared.fault.Refusal.the-variants.{Length, Turn, NotZero, Degree, End, Exponent, Relation, Depth, PatchSize, Size, Drift}
 
 -- the numbers of the refusals
 abbrev pub refusal-number : Refusal → ℕ
@@ -20,6 +20,9 @@ refusal-number End = 5
 refusal-number Exponent = 6
 refusal-number Relation = 7
 refusal-number Depth = 8
+refusal-number PatchSize = 9
+refusal-number Size = 10
+refusal-number Drift = 11
 
 -- the layer that gives a refusal
 abbrev pub refusal-layer : Refusal → Layer
@@ -31,6 +34,9 @@ refusal-layer End = Reader
 refusal-layer Exponent = Reader
 refusal-layer Relation = Reader
 refusal-layer Depth = Reader
+refusal-layer PatchSize = Sizing
+refusal-layer Size = Sizing
+refusal-layer Drift = Sizing
 
 -- a refusal at byte b of record n
 abbrev pub fault : Refusal → ℕ → ℕ → Fault
@@ -46,7 +52,7 @@ abbrev pub next : {X Y : Type 0} → Result X Fault → (X → Result Y Fault) �
 next (Ok x) f = f x
 next (Err e) f = Err e
 
--- the fault at the first of some bytes that fails the test; the first of them is byte b of record n
-unfoldable pub each-checked : (ℕ → ℕ → Bool) → Refusal → ℕ → ℕ → List ℕ → Result (Unit {0}) Fault
-each-checked test why n b [] = Ok tt
-each-checked test why n b (x ∷ xs) = next (checked (test b x) (fault why n b)) (λ _. each-checked test why n (b + 1) xs)
+-- the fault of the first of some things, numbered from n, that fails the test
+unfoldable pub each-checked : {X : Type 0} → (ℕ → X → Bool) → (ℕ → Fault) → ℕ → List X → Result (Unit {0}) Fault
+each-checked test fault-at n [] = Ok tt
+each-checked test fault-at n (x ∷ xs) = next (checked (test n x) (fault-at n)) (λ _. each-checked test fault-at (n + 1) xs)

@@ -6,3 +6,6 @@ pub mod Reading
 pub mod Drafts
 pub mod Law
 pub mod Text
+pub mod Sizes
+pub mod Capped
+pub mod SizedLaw

@@ -24,11 +24,11 @@ use Rattle.ticket.specs.declared.records.Record.the-variants.{Axis as IsAxis, 
 
 -- ---- one record: n is its number, and each part of it is named by its bytes
 abbrev pub zeros : ℕ → ℕ → List ℕ → Result (Unit {0}) Fault
-zeros n b xs = each-checked (λ _ x. eqb x 0) NotZero n b xs
+zeros n b xs = each-checked (λ _ x. eqb x 0) (fault NotZero n) b xs
 
 -- the exponent in byte b is that of axis b - 1
 abbrev pub exponents : List Axis → ℕ → List ℕ → Result (Unit {0}) Fault
-exponents axes n es = each-checked (λ b e. leb e (degree-at axes (b - 1))) Exponent n 1 es
+exponents axes n es = each-checked (λ b e. leb e (degree-at axes (b - 1))) (fault Exponent n) 1 es
 
 -- degree in byte 2, flags in byte 3, ends in bytes 4 and 8, zeros from byte 12
 unfoldable pub axis-of : ℕ → ℕ → ℕ → List ℕ → List ℕ → List ℕ → Result Axis Fault

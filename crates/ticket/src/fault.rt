@@ -13,6 +13,9 @@ pub enum Refusal {
     Exponent,
     Relation,
     Depth,
+    PatchSize,
+    Size,
+    Drift,
 }
 
 impl Refusal {
@@ -28,6 +31,9 @@ impl Refusal {
             Refusal::Exponent => 6,
             Refusal::Relation => 7,
             Refusal::Depth => 8,
+            Refusal::PatchSize => 9,
+            Refusal::Size => 10,
+            Refusal::Drift => 11,
         }
     }
 
@@ -43,6 +49,7 @@ impl Refusal {
             | Refusal::Exponent
             | Refusal::Relation
             | Refusal::Depth => Layer::Reader,
+            Refusal::PatchSize | Refusal::Size | Refusal::Drift => Layer::Sizing,
         }
     }
 }

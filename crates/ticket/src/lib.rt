@@ -14,6 +14,8 @@ mod parts;
 mod reader;
 mod reading;
 mod records;
+mod sized_ticket;
+mod sizing;
 mod text;
 mod ticket;
 
@@ -25,6 +27,7 @@ pub use reader::Reader;
 pub use records::Axis;
 pub use records::Relation;
 pub use records::Term;
+pub use sized_ticket::SizedTicket;
 pub use text::FaultDisplay;
 pub use text::LayerDisplay;
 pub use ticket::Ticket;
