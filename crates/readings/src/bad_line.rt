@@ -39,7 +39,7 @@ pub impl fmt::Display for BadLine as BadLineDisplay {
             BadLine::Digit => "not a hexadecimal digit",
             BadLine::HalfByte => "an odd number of digits",
             BadLine::Number => "not a number",
-            BadLine::Expected => "neither read nor NUMBER RECORD BYTE",
+            BadLine::Expected => "not an answer that a case can expect",
             BadLine::OutOfMemory => "out of memory",
         };
         write!(f, "{text}")

@@ -4,10 +4,10 @@ ghost use mathlib.Core.Path.{_≡_};
 ghost use Rattle.readings.specs.Lines.{copies};
 ghost use Rattle.std.specs.Of.Vec.{vec-items};
 ghost use Rattle.std.specs.Vec.{made};
-use super::answer::Answer;
 use super::bad_line::BadLine;
 use super::bad_line::BadLineFromAlloc;
 use super::bad_line::BadLineFromParse;
+use super::expected::Expected;
 use super::hex::hex_bytes;
 use std::alloc::AllocError;
 use std::alloc::Global;
@@ -16,7 +16,7 @@ use std::alloc::Global;
 pub struct Case<'a> {
     pub name: &'a str,
     pub bytes: Vec<u8>,
-    pub expected: Answer,
+    pub expected: Expected,
 }
 
 impl<'a> Case<'a> {
@@ -30,7 +30,7 @@ impl<'a> Case<'a> {
         Ok(Case {
             name: name.trim(),
             bytes: all_bytes(heap, records)?,
-            expected: Answer::expected(expected)?,
+            expected: Expected::from_field(expected)?,
         })
     }
 }

@@ -5,8 +5,10 @@ ghost use Rattle.readings.specs.Lines.{is-case};
 mod answer;
 mod bad_line;
 mod case;
+mod expected;
 mod hex;
 mod tally;
+mod trial;
 
 use answer::Answer;
 use answer::AnswerDisplay;
@@ -40,8 +42,8 @@ fn try_line(rt: &impl Print, heap: Global, line: &str) -> io::Result<bool> {
         }
     };
     let name = case.name;
-    let got = Answer::of(heap, case.bytes.as_slice());
-    let agrees = got == case.expected;
+    let got = Answer::of(heap, case.expected.trial, case.bytes.as_slice());
+    let agrees = got == case.expected.answer;
     if agrees {
         println!(rt, "ok {name}")?;
     } else {

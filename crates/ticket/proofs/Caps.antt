@@ -2,7 +2,7 @@
 use mathlib.Core.Path.{_≡_, refl, sym, ap, subst, _∙_}
 use mathlib.Core.List.{List, [], _∷_}
 use Prim.Native.Nat.{ℕ, zero, suc, _+_, _*_, _^_, _<_, _≤_, min}
-use native.Mathlib.Nat.{mul-comm, mul-assoc, mul-le-mul-left, mul-le-mul-right, mul-one, mul-zero, mul-suc, zero-mul}
+use native.Mathlib.Nat.{mul-comm, mul-assoc, mul-le-mul-left, mul-le-mul-right, mul-one, mul-zero, mul-suc, zero-mul, pow-zero}
 use native.Mathlib.Numerals.{add-one}
 use native.Mathlib.Omega.{arith}
 use mathlib.Core.Logic.{_⊎_, ⊎-elim}
@@ -95,7 +95,7 @@ reach-more axes es j d h k = λ i. power-reach (drop-more axes j d h i) (drop-mo
 
 no-exponents : (axes : List Axis) → power-reach axes [] ≡ 1
 no-exponents [] = refl
-no-exponents (a ∷ axes) = refl
+no-exponents (a ∷ axes) = λ i. pow-zero (reach a) i * no-exponents axes i
 
 pub reach-past : (axes : List Axis) (es : List ℕ) (j : ℕ) → length es ≤ j → power-reach (drop j axes) (drop j es) ≡ 1
 reach-past axes es j h = ap (power-reach (drop j axes)) (drop-all j es h) ∙ no-exponents (drop j axes)

@@ -20,12 +20,17 @@ use Rattle.ticket.specs.declared.records.Term.{Term}
 abbrev pub common : ℕ → ℕ
 common n = getD (1 ∷ 1 ∷ 2 ∷ 3 ∷ 12 ∷ 10 ∷ 60 ∷ 105 ∷ 280 ∷ []) n 1
 
-abbrev pub degrees : List Axis → List ℕ
-degrees axes = map (λ a. a .degree) axes
+abbrev pub degrees-of : List Axis → List ℕ
+degrees-of axes = map (λ a. a .degree) axes
+
+-- what is left of a list without its first
+abbrev pub rest : {X : Type 0} → List X → List X
+rest [] = []
+rest (x ∷ xs) = xs
 
 -- how many numbers a patch has
 abbrev pub patch-count : List Axis → ℕ
-patch-count axes = numbers (degrees axes)
+patch-count axes = numbers (degrees-of axes)
 
 -- the factor that makes all numbers of the first patch whole
 abbrev pub scale : List Axis → ℕ
@@ -36,10 +41,10 @@ scale (a ∷ axes) = common (a .degree) * scale axes
 abbrev pub reach : Axis → ℕ
 reach a = natAbs (a .lower) + natAbs (a .upper -ℤ a .lower)
 
+-- the reaches of all variables, each to its exponent
 abbrev pub power-reach : List Axis → List ℕ → ℕ
 power-reach [] es = 1
-power-reach (a ∷ axes) [] = 1
-power-reach (a ∷ axes) (e ∷ es) = reach a ^ e * power-reach axes es
+power-reach (a ∷ axes) es = reach a ^ getD es 0 0 * power-reach axes (rest es)
 
 -- the sum over the terms as written, of the sizes of their values or of their drifts
 abbrev pub terms-size : (Term → ℤ) → List Axis → List Term → ℕ

@@ -1,0 +1,14 @@
+pub mod Judging
+pub mod Point
+pub mod Box
+pub mod FirstPatch
+pub mod Meaning
+pub mod Sizes
+pub mod Examples
+pub mod Corners
+pub mod Halving
+pub mod Shapes
+pub mod Sweeps
+pub mod Writing
+pub mod Weights
+pub mod Conversion
