@@ -2,7 +2,7 @@
 use mathlib.Core.Path.{_≡_, refl, sym, _∙_, ap, subst}
 use mathlib.Core.List.{List, [], _∷_}
 use mathlib.Core.Logic.{_⊎_, inl, inr}
-use Prim.Native.Nat.{ℕ, zero, suc, _*_, _%_, _≤_, _<_}
+use Prim.Native.Nat.{ℕ, zero, suc, _*_, _≤_, _<_}
 use native.Mathlib.Omega.{arith}
 use native.Mathlib.Nat.{mul-suc, pow-suc}
 use lib.Dec.{T}
@@ -13,7 +13,6 @@ use lib.Signed.{_≤ℤ_, _<ℤ_}
 use Rattle.std.specs.shelf.Lists.{All}
 use Rattle.std.proofs.shelf.Signed.{ints, by-ltZ}
 use Rattle.algebra.specs.Module.{pow}
-use Rattle.algebra.specs.Bernstein.{choose}
 use Rattle.algebra.specs.Form.{Axis as Distances, axis, degrees, Between, toward, change}
 use Rattle.algebra.specs.declared.half.Half.{Half}
 use Rattle.algebra.specs.declared.half.Half.the-variants.{Lower, Upper}
@@ -108,19 +107,6 @@ at-each : (n : ℕ) (p : ℕ → Bool) → T (all-below n p) → (i : ℕ) → i
 at-each zero p t i h = absurd (omega arith)
 at-each (suc n) p t zero h = both (p 0) (all-below n (λ i. p (suc i))) t .0
 at-each (suc n) p t (suc i) h = at-each n (λ i. p (suc i)) (both (p 0) (all-below n (λ i. p (suc i))) t .1) i (omega arith)
-
-pub common-divides : (n : ℕ) → n ≤ 8 → (m : ℕ) → m ≤ n → common n % choose n m ≡ 0
-common-divides n h m k =
-    none-left (common n % choose n m) (at-each (suc n) (λ m. none (common n % choose n m))
-    (at-each 9 (λ n. all-below (suc n) (λ m. none (common n % choose n m))) tt n (omega arith)) m (omega arith))
-  where
-    none : ℕ → Bool
-    none zero = true
-    none (suc n) = false
-
-    none-left : (n : ℕ) → T (none n) → n ≡ 0
-    none-left zero t = refl
-    none-left (suc n) t = absurd t
 
 common-positive : (n : ℕ) → n ≤ 8 → 0 < common n
 common-positive n h = some-left (common n) (at-each 9 (λ n. some (common n)) tt n (omega arith))

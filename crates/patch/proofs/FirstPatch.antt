@@ -30,7 +30,8 @@ use Rattle.patch.specs.Box.{entire, whole-box, seen, seen-all, from-ends, fact
 use Rattle.patch.specs.FirstPatch.{turned, of-powers, first-number, first-patch}
 use Rattle.patch.specs.Meaning.{Represents}
 use Rattle.patch.proofs.Formed.{Sound, Fits, axes-sound, turned-terms-fit}
-use Rattle.patch.proofs.Box.{seen-degrees, seen-entire, common-divides}
+use Rattle.patch.proofs.Box.{seen-degrees, seen-entire}
+use Rattle.patch.proofs.Table.{common-divided}
 use Rattle.ticket.specs.Sizes.{common, degrees-of, rest}
 
 -- ---- one term
@@ -52,7 +53,7 @@ module _ (w : ℤ) (v : Pair) where
       eval integers (a .degree) (seen a entire u w .s) (seen a entire u w .t) (of-power (common (a .degree)) (a .degree) (a .lower) (a .upper) e) ≡ pos (common (a .degree)) *ℤ (pow (a .upper -ℤ a .lower) (a .degree) *ℤ (pow u e *ℤ pow w (a .degree - e)))
   one-axis a u e h k =
       ap (λ x. eval integers (a .degree) (x .s) (x .t) (of-power (common (a .degree)) (a .degree) (a .lower) (a .upper) e)) (seen-entire a u w)
-      ∙ of-power-evaluates (common (a .degree)) (a .degree) e (a .lower) (a .upper) u w k (common-divides (a .degree) h)
+      ∙ of-power-evaluates (common (a .degree)) (a .degree) e (a .lower) (a .upper) u w k (λ m. common-divided (a .degree) m h)
 
   one-more : (a : Axis) (more : List Axis) (us : List ℤ) (e : ℕ) (es : List ℕ) → a .degree ≤ 8 → e ≤ a .degree → sum-of es ≤ sum-of (degrees-of more) → Term-is more (rest us) es → Term-is (a ∷ more) us (e ∷ es)
   one-more a more us e es h k l later =

@@ -1,26 +1,21 @@
 -- The numbers of the first patch are within the ticket's sizes: a factor of an axis is, so is the product of the factors, and so is the sum of the terms.
-use mathlib.Core.Path.{_≡_, refl, sym, _∙_, ap, ap₂, subst}
+use mathlib.Core.Path.{_≡_, refl, sym, ap, ap₂, subst}
 use mathlib.Core.List.{List, [], _∷_, map}
 use mathlib.Core.Logic.{inl, inr}
-use Prim.Native.Nat.{ℕ, zero, suc, _+_, _-_, _*_, _/_, _^_, _≤_}
+use Prim.Native.Nat.{ℕ, _+_, _-_, _*_, _^_, _≤_}
 use native.Mathlib.Omega.{arith}
-use native.Mathlib.Nat.{mul-le-mul, mul-le-mul-left, le-refl, div-mul-le-self, pow-zero, pow-succ'}
-use lib.IntN.{ℤ, pos, negsuc, negℤ, natAbs, _+ℤ_, _*ℤ_, _-ℤ_}
+use native.Mathlib.Nat.{mul-le-mul, le-refl}
+use lib.IntN.{ℤ, pos, negℤ, natAbs, _+ℤ_, _*ℤ_, _-ℤ_}
 use lib.ListN.{getD, List·getD-eq-default}
-use lib.Signed.{_≤ℤ_}
 use Rattle.std.proofs.shelf.Counted.{getD-map-counting, length-map-counting}
 use Rattle.std.proofs.shelf.Signed.{ints}
 use Rattle.std.proofs.shelf.Tests.{cases-lt}
-use Rattle.algebra.specs.Module.{integers, pow}
-use Rattle.algebra.specs.Bernstein.{choose, total, share, of-power}
+use Rattle.algebra.specs.Bernstein.{of-power}
 use Rattle.algebra.specs.Form.{Index}
 use Rattle.algebra.specs.Layout.{numbers, index-of}
 use Rattle.algebra.specs.Pair.{Pair, pairs}
 use Rattle.algebra.proofs.Integers.{natural}
 use Rattle.algebra.proofs.Ring.{_⊕_, _⊗_, ring, x₀, x₁, x₂, x₃}
-use Rattle.algebra.proofs.Pair.{integers-laws}
-use Rattle.algebra.proofs.Binomial.{total-times}
-use Rattle.algebra.proofs.Monomial.{binomial}
 use Rattle.algebra.proofs.Places.{index-is-index}
 use Rattle.ticket.specs.WellFormed.{Content}
 use Rattle.ticket.specs.declared.records.Axis.{Axis}
@@ -30,69 +25,11 @@ use Rattle.ticket.specs.declared.records.Relation.the-variants.{Greater, AtLeas
 use Rattle.patch.specs.Point.{sum-over}
 use Rattle.patch.specs.FirstPatch.{negated, turned-terms, turned, of-powers, first-number, first-patch}
 use Rattle.patch.specs.Sizes.{Within-sizes}
-use Rattle.patch.proofs.CornerPoint.{pos-pow}
+use Rattle.patch.proofs.Bounds.{natAbs-product, of-power-small}
 use Rattle.ticket.specs.Sizes.{common, degrees-of, rest, scale, power-reach as reach, terms-size as sizes}
 
--- ---- the size of sums, products and powers
 size-opposite : (x : ℤ) → natAbs (negℤ x) ≡ natAbs x
 size-opposite x = omega (arith, ints)
-
-pub size-product : (x y : ℤ) → natAbs (x *ℤ y) ≡ natAbs x * natAbs y
-size-product (pos a) (pos b) = refl
-size-product (pos a) (negsuc b) = size-opposite (pos (a * suc b))
-size-product (negsuc a) (pos b) = size-opposite (pos (suc a * b))
-size-product (negsuc a) (negsuc b) = refl
-
-size-pow : (x : ℤ) (n : ℕ) → natAbs (pow x n) ≡ natAbs x ^ n
-size-pow x zero = sym (pow-zero (natAbs x))
-size-pow x (suc n) = size-product x (pow x n) ∙ ap (λ m. natAbs x * m) (size-pow x n) ∙ sym (pow-succ' (natAbs x) n)
-
-size-total : (n : ℕ) (f g : ℕ → ℤ) → ((k : ℕ) → pos (natAbs (f k)) ≤ℤ g k) → pos (natAbs (total integers n f)) ≤ℤ total integers n g
-size-total zero f g h = omega (arith, ints)
-size-total (suc n) f g h = omega (arith, ints, h 0, size-total n (λ k. f (suc k)) (λ k. g (suc k)) (λ k. h (suc k)))
-
--- ---- one axis
-choose-grows : (k n m : ℕ) → k ≤ n → choose k m ≤ choose n m
-choose-grows k n zero h = omega arith
-choose-grows zero n (suc m) h = omega arith
-choose-grows (suc k) zero (suc m) h = absurd (omega arith)
-choose-grows (suc k) (suc n) (suc m) h = omega (arith, choose-grows k n m (omega arith), choose-grows k n (suc m) (omega arith))
-
-share-below : (l n k m : ℕ) → k ≤ n → share l n k m ≤ l
-share-below l n k m h = omega (arith, mul-le-mul-left (l / choose n m) (choose-grows k n m h), div-mul-le-self l (choose n m))
-
-module _ (l n : ℕ) (a b : ℤ) (i k : ℕ) (h : k ≤ n) where
-  abbrev A : ℕ
-  A = natAbs a
-
-  abbrev B : ℕ
-  B = natAbs (b -ℤ a)
-
-  -- a term of the sum by which a factor is defined, and of the binomial theorem for (B + A)^i
-  abbrev part : ℕ → ℤ
-  part m = pos (choose i m) *ℤ (pow (b -ℤ a) m *ℤ pow a (i - m)) *ℤ pos (share l n k m)
-
-  abbrev large : ℕ → ℤ
-  large m = pos (choose i m) *ℤ (pow (pos B) m *ℤ pow (pos A) (i - m))
-
-  part-size : (m : ℕ) → pos (natAbs (part m)) ≤ℤ (pos l *ℤ large m)
-  part-size m =
-      let c : ℕ = choose i m * (B ^ m * A ^ (i - m)) in
-      let p : natAbs (part m) ≡ c * share l n k m =
-      size-product (pos (choose i m) *ℤ (pow (b -ℤ a) m *ℤ pow a (i - m))) (pos (share l n k m))
-      ∙ ap (λ z. z * share l n k m) (size-product (pos (choose i m)) (pow (b -ℤ a) m *ℤ pow a (i - m))
-      ∙ ap (λ z. choose i m * z) (size-product (pow (b -ℤ a) m) (pow a (i - m)) ∙ ap₂ (λ y z. y * z) (size-pow (b -ℤ a) m) (size-pow a (i - m)))) in
-      let q : pos l *ℤ large m ≡ pos (c * l) =
-      ap₂ (λ y z. pos l *ℤ (pos (choose i m) *ℤ (y *ℤ z))) (pos-pow B m) (pos-pow A (i - m))
-      ∙ ring (pos l ∷ pos c ∷ []) (x₀ ⊗ x₁) (x₁ ⊗ x₀) tt in
-      omega (arith, ints, p, q, mul-le-mul-left c (share-below l n k m h))
-
-  pub factor-size : natAbs (of-power l n a b i k) ≤ l * (A + B) ^ i
-  factor-size =
-      let e : total integers (suc i) (λ m. pos l *ℤ large m) ≡ pos (l * (A + B) ^ i) =
-      total-times integers-laws (suc i) (pos l) large
-      ∙ ap (λ z. pos l *ℤ z) (binomial i (pos B) (pos A) ∙ ap (λ z. pow z i) (ring (pos B ∷ pos A ∷ []) (x₀ ⊕ x₁) (x₁ ⊕ x₀) tt) ∙ pos-pow (A + B) i) in
-      omega (arith, ints, e, size-total (suc i) part (λ m. pos l *ℤ large m) part-size)
 
 -- ---- several axes
 pub product-size : (axes : List Axis) (es ks : List ℕ) → Index (degrees-of axes) ks → natAbs (of-powers axes es ks) ≤ scale axes * reach axes es
@@ -104,7 +41,7 @@ product-size (a ∷ more) es (k ∷ ks) i =
     let own = of-power l (a .degree) (a .lower) (a .upper) (getD es 0 0) k in
     let e : l * r * (scale more * reach more (rest es)) ≡ l * scale more * (r * reach more (rest es)) =
     natural (ring (pos l ∷ pos r ∷ pos (scale more) ∷ pos (reach more (rest es)) ∷ []) (x₀ ⊗ x₁ ⊗ (x₂ ⊗ x₃)) (x₀ ⊗ x₂ ⊗ (x₁ ⊗ x₃)) tt) in
-    omega (arith, e, size-product own (of-powers more (rest es) ks), mul-le-mul (factor-size l (a .degree) (a .lower) (a .upper) (getD es 0 0) k (i .0)) (product-size more (rest es) ks (i .1)))
+    omega (arith, e, natAbs-product own (of-powers more (rest es) ks), mul-le-mul (of-power-small (a .lower) (a .upper) (getD es 0 0) l (a .degree) k (i .0)) (product-size more (rest es) ks (i .1)))
 
 -- ---- the sum of the terms, of one part of their pairs
 abbrev part-sum : (Term → ℤ) → (Term → ℤ) → List Term → ℤ
@@ -128,7 +65,7 @@ module _ (axes : List Axis) (part : Term → ℤ) where
       let r : ℕ = reach axes (t .exponents) in
       let e : scale axes * r * n + scale axes * sizes part axes ts ≡ scale axes * (n * r + sizes part axes ts) =
       natural (ring (pos (scale axes) ∷ pos r ∷ pos n ∷ pos (sizes part axes ts) ∷ []) (x₀ ⊗ x₁ ⊗ x₂ ⊕ x₀ ⊗ x₃) (x₀ ⊗ (x₂ ⊗ x₁ ⊕ x₃)) tt) in
-      let own : natAbs (x *ℤ part t) ≤ scale axes * r * n = omega (arith, size-product x (part t), mul-le-mul (product-size axes (t .exponents) ks i) (le-refl n)) in
+      let own : natAbs (x *ℤ part t) ≤ scale axes * r * n = omega (arith, natAbs-product x (part t), mul-le-mul (product-size axes (t .exponents) ks i) (le-refl n)) in
       omega (arith, ints, e, own, sum-size ks i ts)
 
   -- the opposite terms are as large

@@ -1,4 +1,4 @@
--- The table of the weights: its rule as one computed equation, that rule at one place, and what the weights are.
+-- The tables of the weights and of the binomials: the rule of each as one computed equation, that rule at one place, and what the weights are.
 use mathlib.Core.Path.{_≡_, refl, sym, ap, _∙_}
 use mathlib.Core.Bool.{Bool, true, _&&_}
 use mathlib.Core.List.{List, map}
@@ -15,23 +15,32 @@ use Rattle.algebra.specs.Bernstein.{choose, share}
 use Rattle.ticket.specs.Sizes.{common}
 use Rattle.patch.specs.Weights.{weight-of}
 
-unfoldable pub row : ℕ → ℕ → List ℕ
-row n k = map (weight-of n k) (counting 0 9)
+-- ---- nine rows of nine numbers
+unfoldable pub square : (ℕ → ℕ → ℕ) → List (List ℕ)
+square f = map (λ k. map (f k) (counting 0 9)) (counting 0 9)
 
-unfoldable pub leaf : ℕ → List (List ℕ)
-leaf n = map (row n) (counting 0 9)
+pub square-rule : (f : ℕ → ℕ → ℕ) (xs : List (List ℕ)) → xs ≡ square f → (e : List ℕ) (q r k i : ℕ) → q ≡ k → r ≡ i → k ≤ 8 → i ≤ 8 → getD (getD xs q e) r 0 ≡ f k i
+unfolding square
+square-rule f xs same e q r k i row place h j =
+    ap (λ l. getD (getD l q e) r 0) same
+    ∙ ap (λ l. getD l r 0) (getD-map-counting (λ k. map (f k) (counting 0 9)) 0 9 q k e (omega arith) (omega arith))
+    ∙ getD-map-counting (f k) 0 9 r i 0 (omega arith) (omega arith)
 
+-- ---- the weights, for the degrees 1 to 8
 unfoldable pub whole : List (List (List ℕ))
-whole = map leaf (counting 1 8)
+whole = map (λ n. square (weight-of n)) (counting 1 8)
 
--- the entry at a degree less 1, a coefficient and a power
 pub rule : (xs : List (List (List ℕ))) → xs ≡ whole → (d : List (List ℕ)) (e : List ℕ) (p q r n k i : ℕ) → 1 + p ≡ n → q ≡ k → r ≡ i → n ≤ 8 → k ≤ 8 → i ≤ 8 → getD (getD (getD xs p d) q e) r 0 ≡ weight-of n k i
-unfolding whole leaf row
-rule xs same d e p q r n k i degree place power a b c =
+unfolding whole
+rule xs same d e p q r n k i degree row place g h j =
     ap (λ l. getD (getD (getD l p d) q e) r 0) same
-    ∙ ap (λ l. getD (getD l q e) r 0) (getD-map-counting leaf 1 8 p n d (omega arith) degree)
-    ∙ ap (λ l. getD l r 0) (getD-map-counting (row n) 0 9 q k e (omega arith) (omega arith))
-    ∙ getD-map-counting (weight-of n k) 0 9 r i 0 (omega arith) (omega arith)
+    ∙ ap (λ l. getD (getD l q e) r 0) (getD-map-counting (λ n. square (weight-of n)) 1 8 p n d (omega arith) degree)
+    ∙ square-rule (weight-of n) (square (weight-of n)) refl e q r k i row place h j
+
+-- what stands outside the table, as the code tests it
+pub outside : (n k i : ℕ) → ((1 ≤ n × n ≤ 8 × k ≤ 8 × 8 < i) ⊎ ((1 ≤ n × n ≤ 8 × 8 < k) ⊎ ((1 ≤ n × 8 < n) ⊎ (n < 1)))) → 0 ≡ weight-of n k i
+unfolding weight-of
+outside n k i h = grind (arith, tells)
 
 -- ---- a test that is passed by all numbers below n
 abbrev every-below : ℕ → (ℕ → Bool) → Bool
@@ -75,8 +84,3 @@ shared-at n k i h p q =
 pub weight-is-share : (n k i : ℕ) → 1 ≤ n → n ≤ 8 → k ≤ n → i ≤ n → weight-of n k i ≡ share (common n) n k i
 weight-is-share zero k i some h p q = absurd (omega arith)
 weight-is-share (suc n) k i some h p q = shared-at n k i (omega arith) p q
-
--- what stands outside the table, as the code tests it
-pub outside : (n k i : ℕ) → ((1 ≤ n × n ≤ 8 × k ≤ 8 × 8 < i) ⊎ ((1 ≤ n × n ≤ 8 × 8 < k) ⊎ ((1 ≤ n × 8 < n) ⊎ (n < 1)))) → 0 ≡ weight-of n k i
-unfolding weight-of
-outside n k i h = grind (arith, tells)

@@ -1,12 +1,9 @@
 -- How large the numbers of a ticket's first patch can be.
-use mathlib.Core.List.{List, [], _∷_}
-use Prim.Native.Nat.{ℕ, _+_, _*_, _^_, _≤_}
-use lib.IntN.{ℤ, natAbs, _-ℤ_}
+use Prim.Native.Nat.{ℕ, _≤_}
+use lib.IntN.{natAbs}
 use lib.ListN.{getD}
 use Rattle.algebra.specs.Pair.{Pair, pairs}
 use Rattle.ticket.specs.WellFormed.{Content}
-use Rattle.ticket.specs.declared.records.Axis.{Axis}
-use Rattle.ticket.specs.declared.records.Term.{Term}
 use Rattle.patch.specs.FirstPatch.{turned, first-patch}
 use Rattle.ticket.specs.Sizes.{value-size, drift-size}
 

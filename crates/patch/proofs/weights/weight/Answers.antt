@@ -3,12 +3,12 @@ use Prim.Native.Nat.{_-_}
 use borrow.Author.Needs.{needs}
 use lib.IntN.{pos}
 use Rattle.patch.specs.Weights.{weight-of}
-use Rattle.patch.proofs.Table.{rule, whole, leaf, row, outside}
+use Rattle.patch.proofs.Table.{rule, whole, square, outside}
 use Rattle.patch.proofs.Words.{answer-is}
 use Rattle.patch.proofs.weights.weight.Needs as need
 
 pub returns-then-i-le8 : need.returns-then-i-le8
-unfolding whole leaf row weight-of
+unfolding whole square weight-of
 returns-then-i-le8 c =
     answer-is (c .from-then-i-le8-3 .ok)
     (c .from-then-i-le8-3 .ensures

@@ -1,5 +1,5 @@
-use mathlib.Core.Path.{_≡_, refl, sym, ap, subst, _∙_}
-use Prim.Native.Nat.{zero, suc, _+_, _-_, _*_, _^_}
+use mathlib.Core.Path.{_≡_, ap, subst, _∙_}
+use Prim.Native.Nat.{suc, _+_, _-_, _*_, _^_}
 use native.Mathlib.Nat.{pow-succ', pow-zero}
 use native.Mathlib.Omega.{arith}
 use Rattle.ticket.proofs.Caps.{Product, product-start, product-more, product-end}

@@ -1,4 +1,4 @@
-use mathlib.Core.Path.{_≡_, refl, ap, _∙_}
+use mathlib.Core.Path.{refl, ap, _∙_}
 use Rattle.ticket.specs.Sizes.{is-patch, is-sized, drifts-carried, sizing}
 use Rattle.ticket.proofs.Chains.{through, stops, told}
 use Rattle.ticket.proofs.SizedExit.{exit-sized}
