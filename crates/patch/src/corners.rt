@@ -15,7 +15,7 @@ use algebra::Sign;
 use number::Number;
 use ticket::Relation;
 
-// A ticket has no more axes, so no place of a patch exceeds a machine word.
+// A ticket has no more axes, and the places of such a patch fit a machine word.
 const AXES: usize = 4;
 
 // The end that a corner uses, by a digit of its number.
@@ -104,7 +104,7 @@ fn breaks<K: Number>(
         && !satisfies(relation, sign_at(numbers, place(corner, degrees)))
 }
 
-// The number of the lowest corner that lies in the box and violates the relation.
+// The number of the lowest corner that lies in the box and violates the relation. Past four axes none is looked for.
 pub fn broken_corner<K: Number>(
     relation: Relation,
     degrees: &[u8],
