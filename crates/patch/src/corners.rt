@@ -8,6 +8,7 @@ ghost use Rattle.algebra.specs.Layout.{place-of};
 ghost use Rattle.algebra.specs.Pair.{pairs, sign-of};
 ghost use Rattle.patch.specs.Judging.{closed, corner-inside, breaks as broken-at};
 ghost use Rattle.patch.specs.Corners.{ends-of, end-of, corner-of, lowest-broken, Corners-are-numbered};
+ghost use Rattle.patch.specs.Meaning.{Found-corner-is-false};
 use crate::ends::Ends;
 use crate::judging::satisfies;
 use algebra::Half;
@@ -104,14 +105,16 @@ fn breaks<K: Number>(
         && !satisfies(relation, sign_at(numbers, place(corner, degrees)))
 }
 
-// The number of the lowest corner that lies in the box and violates the relation. Past four axes none is looked for.
+// The number of the lowest corner that lies in the box and violates the relation: the inequality is false at its point, which the
+// ticket's box has. Past four axes none is looked for.
 pub fn broken_corner<K: Number>(
     relation: Relation,
     degrees: &[u8],
     ends: &[Ends],
     numbers: &[K],
 ) -> Option<u32>
-    ensures { λ r. ⌜ r ≡ lowest-broken relation (now (degrees .entry)) (map ends-of (now (ends .entry))) (map means (now (numbers .entry))) ⌝ }
+    ensures answer { λ r. ⌜ r ≡ lowest-broken relation (now (degrees .entry)) (map ends-of (now (ends .entry))) (map means (now (numbers .entry))) ⌝ }
+    ensures meaning { λ _. ⌜ Found-corner-is-false ⌝ }
 {
     if degrees.len() > AXES {
         return None;

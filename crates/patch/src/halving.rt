@@ -9,6 +9,7 @@ ghost use Rattle.algebra.specs.Form.{other as other-half};
 ghost use Rattle.number.specs.Limits.{may-grow};
 ghost use Rattle.patch.specs.Sweeps.{pair-at};
 ghost use Rattle.patch.specs.Halving.{may-halve, Halved, Split};
+ghost use Rattle.patch.specs.Meaning.{Half-represents, Halves-cover};
 use crate::judging::all_grow;
 use crate::layout::shape;
 use crate::shape::Shape;
@@ -49,7 +50,8 @@ fn split<K: Number>(work: &mut [K], start: usize, shape: Shape, first: Half)
 }
 
 // Halves the patch at `start` along an axis: the half named `first` goes behind it and the other over it. It answers false, and leaves
-// the workspace as it is, if there is no such axis, no room for both halves, or a number that may not grow by the degree.
+// the workspace as it is, if there is no such axis, no room for both halves, or a number that may not grow by the degree. If the patch
+// represents a polynomial on a box, so do the halves on those of the box, and these lose no point of it.
 pub fn halve<K: Number>(
     work: &mut [K],
     start: usize,
@@ -60,6 +62,8 @@ pub fn halve<K: Number>(
     ensures answer { λ r. ⌜ r ≡ may-halve limit (now (degrees .entry)) axis start (map means (now (work .entry))) ⌝ }
     ensures halved { λ r. ⌜ (r ≡ true → Halved first (now (degrees .entry)) axis start (map means (now (work .entry))) (map means (now (work .exit)))) ⌝ }
     ensures refused { λ r. ⌜ (r ≡ false → now (work .exit) ≡ now (work .entry)) ⌝ }
+    ensures represents { λ _. ⌜ Half-represents ⌝ }
+    ensures covers { λ _. ⌜ Halves-cover ⌝ }
 {
     let Some(shape) = shape(degrees, axis) else {
         return false;

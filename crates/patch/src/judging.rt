@@ -6,6 +6,7 @@ ghost use lib.Dec.{leb};
 ghost use lib.ListN.{length};
 ghost use Rattle.patch.specs.Judging.{satisfies as satisfied, all-satisfy, all-grow, signs as signs-of};
 ghost use Rattle.patch.specs.Writing.{written};
+ghost use Rattle.patch.specs.Meaning.{All-satisfied-is-true-inside};
 use algebra::Sign;
 use number::Number;
 use ticket::Relation;
@@ -24,7 +25,8 @@ pub fn satisfies(relation: Relation, sign: Sign) -> bool
 
 // Whether all numbers of a patch satisfy the relation: then the polynomial does at every point of the box.
 pub fn all_satisfy<K: Number>(relation: Relation, numbers: &[K]) -> bool
-    ensures { λ r. ⌜ r ≡ all-satisfy relation (map means (now (numbers .entry))) ⌝ }
+    ensures answer { λ r. ⌜ r ≡ all-satisfy relation (map means (now (numbers .entry))) ⌝ }
+    ensures meaning { λ _. ⌜ All-satisfied-is-true-inside ⌝ }
 {
     for x in numbers {
         if !satisfies(relation, x.sign()) {

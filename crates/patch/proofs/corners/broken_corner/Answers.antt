@@ -1,3 +1,4 @@
+use borrow.Author.Needs.{needs}
 use mathlib.Core.Path.{sym, ap, _∙_}
 use mathlib.Core.Bool.{cond}
 use mathlib.Core.List.{map}
@@ -8,8 +9,12 @@ use Rattle.std.specs.declared.option.Option.the-variants.{None}
 use borrow.Author.Tests.{le-leb}
 use Rattle.patch.specs.Judging.{breaks, broken-corner}
 use Rattle.patch.specs.Corners.{ends-of, rank}
+use Rattle.patch.proofs.Meaning.{found-corner-is-false}
 use Rattle.patch.proofs.BoxCorners.{first-found, first-more, first-none, all-corners}
 use Rattle.patch.proofs.corners.broken_corner.Needs as need
+
+pub returns-then-degrees-gt-AXES : need.returns-then-degrees-gt-AXES
+returns-then-degrees-gt-AXES g c = record { meaning = found-corner-is-false; answer = search needs }
 
 pub returns-then-breaks : need.returns-then-breaks
 returns-then-breaks g c =
@@ -17,8 +22,11 @@ returns-then-breaks g c =
     let es = map ends-of (c .args .ends .now) in
     let b = map (g .K·Number .means) (c .args .numbers .now) in
     let n = all-corners (length degrees) (omega arith) in
-    first-found (breaks (c .args .relation) degrees es b) (length degrees) (c .loop-corner .corner) (omega arith) _ (c .loop-corner .inv) (sym (c .breaks .ensures) ∙ c .if-breaks .taken)
-    ∙ ap (λ few. cond few (mapped rank (broken-corner (c .args .relation) degrees es b)) None) (sym (le-leb (length degrees) 4 (omega arith)))
+    record {
+      meaning = found-corner-is-false;
+      answer = first-found (breaks (c .args .relation) degrees es b) (length degrees) (c .loop-corner .corner) (omega arith) _ (c .loop-corner .inv) (sym (c .breaks .ensures) ∙ c .if-breaks .taken)
+          ∙ ap (λ few. cond few (mapped rank (broken-corner (c .args .relation) degrees es b)) None) (sym (le-leb (length degrees) 4 (omega arith)));
+    }
 
 pub loop-corner-again : need.loop-corner-again
 loop-corner-again g c =
@@ -33,5 +41,8 @@ returns g c =
     let es = map ends-of (c .args .ends .now) in
     let b = map (g .K·Number .means) (c .args .numbers .now) in
     let n = all-corners (length degrees) (omega arith) in
-    first-none (breaks (c .args .relation) degrees es b) (length degrees) (c .loop-corner .corner) _ (omega arith) (c .loop-corner .inv)
-    ∙ ap (λ few. cond few (mapped rank (broken-corner (c .args .relation) degrees es b)) None) (sym (le-leb (length degrees) 4 (omega arith)))
+    record {
+      meaning = found-corner-is-false;
+      answer = first-none (breaks (c .args .relation) degrees es b) (length degrees) (c .loop-corner .corner) _ (omega arith) (c .loop-corner .inv)
+          ∙ ap (λ few. cond few (mapped rank (broken-corner (c .args .relation) degrees es b)) None) (sym (le-leb (length degrees) 4 (omega arith)));
+    }

@@ -13,6 +13,8 @@ use Rattle.patch.specs.Halving.{Split}
 use Rattle.patch.proofs.Granting.{no-shape, no-room, by-growth, room-is, growth-is}
 use Rattle.patch.proofs.Rows.{Grows}
 use Rattle.patch.proofs.Counting.{of-shape, of-no-shape, size-is, stride-positive}
+use Rattle.patch.proofs.Box.{halves-cover}
+use Rattle.patch.proofs.Meaning.{half-represents}
 use Rattle.patch.proofs.Slots.{part-grows, halved-is}
 use Rattle.patch.proofs.halving.halve.Needs as need
 
@@ -28,6 +30,8 @@ returns-in-rest g c =
       answer = no-shape (m .limit) (c .args .degrees .now) (c .args .axis) (c .args .start) (map (m .means) work) (omega (arith, length-map work (m .means))) (of-no-shape (c .args .degrees .now) (c .args .axis) (sym (c .in-rest .is) ∙ c .shape .ensures));
       halved = not-both;
       refused = λ _. search needs;
+      represents = half-represents;
+      covers = halves-cover;
     }
 
 pub returns-then-not-has-room : need.returns-then-not-has-room
@@ -39,6 +43,8 @@ returns-then-not-has-room g c =
       answer = no-room (m .limit) ns (c .args .axis) (c .args .start) (map (m .means) (c .args .work .now)) (s .0) (room-is (m .means) ns (c .args .axis) (c .args .start) (c .args .work .now) (c .in-Some .shape) (s .2) (c .has-room .result) (c .has-room .ensures) ∙ c .if-not-has-room .taken);
       halved = not-both;
       refused = λ _. search needs;
+      represents = half-represents;
+      covers = halves-cover;
     }
 
 pub returns-then-not-all-grow : need.returns-then-not-all-grow
@@ -54,6 +60,8 @@ returns-then-not-all-grow g c =
       answer = sym (grown ∙ c .if-not-all-grow .taken) ∙ by-growth (m .limit) ns j start (map (m .means) work) (s .0) (room-is (m .means) ns j start work (c .in-Some .shape) (s .2) (c .has-room .result) (c .has-room .ensures) ∙ c .if-not-has-room .left);
       halved = not-both;
       refused = λ _. search needs;
+      represents = half-represents;
+      covers = halves-cover;
     }
 
 pub split-requires : need.split-requires
@@ -97,4 +105,6 @@ returns g c =
           halved-is (c .args .first) ns j start (map (m .means) work) (map (m .means) (c .split .last .work)) (s .0) (omega arith) (omega arith)
           (subst (λ s. Split (c .args .first) (s .degree) (s .stride) (s .size) start (pair-at (map (m .means) work)) (pair-at (map (m .means) (c .split .last .work)))) (s .2) (c .split .ensures));
       refused = λ e. not-both (sym e);
+      represents = half-represents;
+      covers = halves-cover;
     }
