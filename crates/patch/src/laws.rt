@@ -4,8 +4,9 @@ ghost use Rattle.patch.specs.Sizes.{First-patch-is-bounded};
 ghost use Rattle.patch.specs.Examples.{Worked-patches};
 
 // The first patch of a ticket represents its polynomial on the whole box, and the factor between form and value is positive. Any
-// corner of a represented box that lies in it and breaks the relation refutes the inequality, not only the lowest. The turned inequality is true where the ticket's is, by whichever fractions a point is given. The whole box has every point of the ticket's, and
-// each part of a box has a place that there is. The first patch is within the ticket's sizes.
+// corner of a represented box that lies in it and breaks the relation refutes the inequality, not only the lowest. The turned
+// inequality is true where the ticket's is, by whichever fractions a point is given. The whole box has every point of the ticket's,
+// and each part of a box has a place that there is. The first patch is within the ticket's sizes.
 pub fn patch_laws() -> u8
     ensures first { λ _. ⌜ First-patch-represents ⌝ }
     ensures broken { λ _. ⌜ Broken-corner-is-false ⌝ }
