@@ -5,6 +5,8 @@
 // sign of one coefficient; and the coefficients of each half of the box come from those of the whole by sums and doublings. All of it is
 // in whole numbers: a point is given by its distances from the ends of each axis, and a factor that keeps the sign stands in place of a
 // division. What is proved, the contracts of the four functions of `laws` say; the definitions are in specs/, a file to a chapter.
+#![tactic(auto)]
+
 mod half;
 mod laws;
 mod sign;

@@ -1,4 +1,6 @@
 // A case: the search for a ticket's answer, box by box, over a workspace that is lent to each call.
+#![tactic(auto)]
+
 mod boxes;
 mod case;
 mod ceilings;

@@ -9,6 +9,8 @@
 // A chooser's meaning is a function of the question, and the trait `Chooser` says that every answer is the meaning's and that no
 // question changes it; so code above is proved once for any chooser. Nothing is required of a caller: questions that fit no box,
 // as one with too few signs, are answered by the same definitions.
+#![tactic(auto)]
+
 mod alternating;
 mod by_signs;
 mod chooser;

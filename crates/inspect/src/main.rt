@@ -1,4 +1,6 @@
 // Shows the ticket in the file `ticket.bin` to a reader.
+#![tactic(auto)]
+
 use page::Page;
 use std::{fs, io};
 use ticket::{Failure, Reader};

@@ -1,5 +1,7 @@
 // Shows tickets to a reader: each argument is the name of a file, or the number of an axis along which the patch of the ticket shown
 // last is halved. With no arguments the ticket in the file `ticket.bin` is shown.
+#![tactic(auto)]
+
 mod shown;
 
 use page::Page;

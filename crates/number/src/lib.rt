@@ -5,6 +5,8 @@
 //     x.sign()                          // Negative: the value is 0, so the drift decides
 //     x.plus(x)                         // Some number that means (0, -6)
 //     x.grows(61)                       // false: 3 * 2^61 is larger than 2^62 - 1
+#![tactic(auto)]
+
 mod drifting;
 mod kinds;
 mod number;

@@ -7,6 +7,8 @@
 //         }
 //         text = rest;
 //     }
+#![tactic(auto)]
+
 mod answer;
 mod coordinate;
 mod lines;

@@ -7,6 +7,8 @@
 //     question: p > 0 at every point of the box
 //     depth: 8
 //     records: 5 (1 axis, 3 terms, 1 question)
+#![tactic(auto)]
+
 mod axis;
 mod page;
 mod patch;

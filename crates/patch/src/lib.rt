@@ -9,6 +9,8 @@
 //
 // Every answer is an equation with a definition over the pairs that the numbers mean, whatever their kind, and nothing is required of
 // a caller: what does not fit is refused, and leaves the slice as it was.
+#![tactic(auto)]
+
 mod conversion;
 mod corners;
 mod ends;

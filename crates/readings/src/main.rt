@@ -1,4 +1,6 @@
 // Reads a table of tickets, each with the answer that the rules give, and says whether the library answers the same.
+#![tactic(auto)]
+
 ghost use Rattle.std.specs.Prelude.{◌≡◌};
 ghost use Rattle.readings.specs.Lines.{is_case};
 

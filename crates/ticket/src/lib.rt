@@ -6,6 +6,8 @@
 //         Err(Failure::Refused(fault)) => ..,     // the first fault, and where it stands
 //         Err(Failure::OutOfMemory) => ..,        // a ticket all the same
 //     }
+#![tactic(auto)]
+
 mod draft;
 mod drafting;
 mod failure;

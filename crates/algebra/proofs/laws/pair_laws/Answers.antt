@@ -5,7 +5,7 @@ use Rattle.algebra.proofs.laws.pair_laws.Goals as goal
 pub returns : goal.returns
 returns c = record {
   above = λ x. (positive_parts x, from_positive_parts x);
-  not-below = λ x. (not_negative_parts x, from_not_negative_parts x);
+  not_below = λ x. (not_negative_parts x, from_not_negative_parts x);
   multiple = multiple_keeps_sign;
   opposite = opposite_turns_sign;
   minus = opposite_is_multiple;

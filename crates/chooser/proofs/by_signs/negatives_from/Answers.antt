@@ -15,7 +15,7 @@ loop-k-preserved c =
     let start = c.args.start in
     let k = c.loop-k.k in
     let here : start + k < length signs = omega arith in
-    let test : negative_at signs (start + k) ≡ c.is-negative.result = ap is_negative (get_or_default signs (start + k) Zero _ here) ∙ sym c.is-negative.ensures in
+    let test : negative_at signs (start + k) ≡ c.is_negative.result = ap is_negative (get_or_default signs (start + k) Zero _ here) ∙ sym c.is_negative.ensures in
     elim c.if-is-negative.branch [
       | then-is-negative w ↦ w.found-is ∙ tally_yes (negative_at signs) start k c.loop-k.found c.loop-k.invariant (test ∙ w.if-is-negative.true)
       | else-is-negative w ↦ w.found-is ∙ tally_no (negative_at signs) start k c.loop-k.found c.loop-k.invariant (test ∙ w.if-is-negative.false)

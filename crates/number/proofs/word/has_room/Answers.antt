@@ -8,7 +8,7 @@ use Rattle.number.proofs.word.has_room.Goals as goal
 pub returns-then-n-lt62 : goal.returns-then-n-lt62
 returns-then-n-lt62 c =
     let fits = c.ranges.x in
-    let size : c.unsigned-abs.result ≡ nat_abs c.args.x = simp to_z-of_z at c.unsigned-abs.ensures.value in
+    let size : c.unsigned_abs.result ≡ nat_abs c.args.x = simp to_z-of_z at c.unsigned_abs.ensures.value in
     let room = room_by_quotient c.args.n c.args.x in
     grind (arith, nat_tests, room.0, room.1)
 

@@ -9,7 +9,7 @@ returns-then-inside g c =
     let degrees = c.args.degrees.now in
     let b = map g.K.Number.means c.args.numbers.now in
     let violates : Bool = not (satisfies c.args.relation (sign_of (corner_number degrees b (corner_of (length degrees) c.args.corner)))) in
-    ap not (c.satisfies.ensures ∙ ap (satisfies c.args.relation) (c.sign-at.ensures ∙ ap (λ p. sign_of (get_or b p pairs.nought)) c.place.ensures))
+    ap not (c.satisfies.ensures ∙ ap (satisfies c.args.relation) (c.sign_at.ensures ∙ ap (λ p. sign_of (get_or b p pairs.nought)) c.place.ensures))
     ∙ ap (λ i. i && violates) (sym c.if-inside.true ∙ c.inside.ensures)
 
 pub returns-else-inside : goal.returns-else-inside

@@ -14,7 +14,7 @@ returns-then-not-is-closed c =
     let n = length-map ends ends_of in
     let e : Ends = record { lower_closed = false; upper_closed = false } in
     inside_fails (map ends_of ends) c.args.axes c.args.corner c.loop-j.j _ c.loop-j.invariant.0 e (omega arith) (omega arith)
-    (ap₂ closed (sym c.end.ensures) (get_or-map ends_of ends c.loop-j.j _ e c.loop-j-test.true) ∙ sym c.is-closed.ensures ∙ c.if-not-is-closed.true)
+    (ap₂ closed (sym c.end.ensures) (get_or-map ends_of ends c.loop-j.j _ e c.loop-j-test.true) ∙ sym c.is_closed.ensures ∙ c.if-not-is-closed.true)
 
 pub loop-j-preserved : goal.loop-j-preserved
 loop-j-preserved c =
@@ -22,7 +22,7 @@ loop-j-preserved c =
     let n = length-map ends ends_of in
     let e : Ends = record { lower_closed = false; upper_closed = false } in (
       inside_more (map ends_of ends) c.args.axes c.args.corner c.loop-j.j _ c.loop-j.invariant.0 e (omega arith) (omega arith)
-          (ap₂ closed (sym c.end.ensures) (get_or-map ends_of ends c.loop-j.j _ e c.loop-j-test.true) ∙ sym c.is-closed.ensures ∙ c.if-not-is-closed.false),
+          (ap₂ closed (sym c.end.ensures) (get_or-map ends_of ends c.loop-j.j _ e c.loop-j-test.true) ∙ sym c.is_closed.ensures ∙ c.if-not-is-closed.false),
       omega arith,
     )
 

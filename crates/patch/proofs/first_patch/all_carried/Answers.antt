@@ -14,14 +14,14 @@ returns-then-not-is-carried c =
     let terms = c.args.terms.now in
     let i = c.loop-term.term-index in
     every_fails (carries c.args.drifts) (λ t. t.drift) terms i c.loop-term.invariant (get_or terms i none) c.loop-term-test.true (get_or_default terms i none _ c.loop-term-test.true)
-    (sym c.is-carried.ensures ∙ c.if-not-is-carried.true)
+    (sym c.is_carried.ensures ∙ c.if-not-is-carried.true)
 
 pub loop-term-preserved : goal.loop-term-preserved
 loop-term-preserved c =
     let terms = c.args.terms.now in
     let i = c.loop-term.term-index in
     every_more (carries c.args.drifts) (λ t. t.drift) terms i c.loop-term.invariant (get_or terms i none) c.loop-term-test.true (get_or_default terms i none _ c.loop-term-test.true)
-    (sym c.is-carried.ensures ∙ c.if-not-is-carried.false)
+    (sym c.is_carried.ensures ∙ c.if-not-is-carried.false)
 
 pub returns : goal.returns
 returns c = every_all (carries c.args.drifts) (λ t. t.drift) c.args.terms.now c.loop-term.term-index c.loop-term.invariant c.loop-term-test.false

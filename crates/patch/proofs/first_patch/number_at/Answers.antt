@@ -21,5 +21,5 @@ returns c =
     let t = c.args.ticket.now.ticket in
     let axes = c.as-slice-axes.ensures.value in
     let terms = c.as-slice-terms.ensures.value in
-    c.turned.ensures ∙ ap (turned_pair t.relation) (c.sum-at.ensures.is ∙ (λ i. sum_over (λ t. of_powers (axes i) t.exponents (index_of (degrees_of (axes i)) c.args.place)) (terms i)))
+    c.turned.ensures ∙ ap (turned_pair t.relation) (c.sum_at.ensures.is ∙ (λ i. sum_over (λ t. of_powers (axes i) t.exponents (index_of (degrees_of (axes i)) c.args.place)) (terms i)))
     ∙ turned_sum (λ es. of_powers (content t).axes es (index_of (degrees_of (content t).axes) c.args.place)) t.relation (content t).terms

@@ -15,7 +15,7 @@ use Rattle.patch.proofs.first_patch.write_first_patch.Goals as goal
 pub returns-then-not-all-carried : goal.returns-then-not-all-carried
 returns-then-not-all-carried g c =
     let t = content c.args.ticket.now.ticket in
-    let carried : false ≡ all_carried g.K.Number.drifts t.terms = sym c.if-not-all-carried.true ∙ c.all_carried.ensures ∙ (λ i. all_carried (c.carries-drift.ensures i) (c.as-slice.ensures.value i)) in
+    let carried : false ≡ all_carried g.K.Number.drifts t.terms = sym c.if-not-all-carried.true ∙ c.all_carried.ensures ∙ (λ i. all_carried (c.carries_drift.ensures i) (c.as_slice.ensures.value i)) in
     record {
       answer = ap (λ b. b && leb (numbers (degrees_of t.axes)) (length c.args.work.now)) carried;
       begun = not_both;
@@ -31,7 +31,7 @@ returns-then-work-size g c =
     let room = length c.args.work.now in
     let size = ap (λ s. s.patch) c.sizes-size.ensures in
     let short = c.if-work-size.true in
-    let carried : true ≡ all_carried g.K.Number.drifts t.terms = sym c.if-not-all-carried.false ∙ c.all_carried.ensures ∙ (λ i. all_carried (c.carries-drift.ensures i) (c.as-slice.ensures.value i)) in
+    let carried : true ≡ all_carried g.K.Number.drifts t.terms = sym c.if-not-all-carried.false ∙ c.all_carried.ensures ∙ (λ i. all_carried (c.carries_drift.ensures i) (c.as_slice.ensures.value i)) in
     record {
       answer = sym (lt-leb (numbers (degrees_of t.axes)) room (omega arith)) ∙ ap (λ b. b && leb (numbers (degrees_of t.axes)) room) carried;
       begun = not_both;
@@ -47,9 +47,9 @@ number-at-requires g c = record { whole = ap (λ s. s.patch) c.sizes-size.ensure
 pub made-requires : goal.made-requires
 made-requires g c =
     let t = c.args.ticket.now in
-    number_made g.K.Number.drifts (content t.ticket) c.sizes-size.result.patch c.loop-place.place (pair_of_parts c.number-at.result) t.ticket.formed t.small (ap (λ s. s.patch) c.sizes-size.ensures) c.loop-place-test.true
-    (sym (c.all_carried.ensures ∙ (λ i. all_carried (c.carries-drift.ensures i) (c.as-slice.ensures.value i))) ∙ c.if-not-all-carried.false)
-    c.number-at.ensures
+    number_made g.K.Number.drifts (content t.ticket) c.sizes-size.result.patch c.loop-place.place (pair_of_parts c.number_at.result) t.ticket.formed t.small (ap (λ s. s.patch) c.sizes-size.ensures) c.loop-place-test.true
+    (sym (c.all_carried.ensures ∙ (λ i. all_carried (c.carries_drift.ensures i) (c.as_slice.ensures.value i))) ∙ c.if-not-all-carried.false)
+    c.number_at.ensures
 
 pub loop-place-init : goal.loop-place-init
 loop-place-init g c = none_filled g.K.Number.means (number_at (turned (content c.args.ticket.now.ticket))) c.args.work.now
@@ -58,7 +58,7 @@ pub loop-place-preserved : goal.loop-place-preserved
 loop-place-preserved g c =
     let k = c.loop-place.auto.work in
     let l : c.loop-place.place < length c.loop-place.work = omega arith in
-    filled_more g.K.Number.means (number_at (turned (content c.args.ticket.now.ticket))) c.args.work.now c.loop-place.work c.loop-place.place c.made.result c.loop-place.invariant l (c.made.ensures ∙ c.number-at.ensures)
+    filled_more g.K.Number.means (number_at (turned (content c.args.ticket.now.ticket))) c.args.work.now c.loop-place.work c.loop-place.place c.made.result c.loop-place.invariant l (c.made.ensures ∙ c.number_at.ensures)
 
 pub returns : goal.returns
 returns g c =
@@ -66,7 +66,7 @@ returns g c =
     let size = ap (λ s. s.patch) c.sizes-size.ensures in
     let all : c.loop-place.place ≡ numbers (degrees_of t.axes) = omega arith in
     let fits : numbers (degrees_of t.axes) ≤ length c.args.work.now = omega arith in
-    let carried : true ≡ all_carried g.K.Number.drifts t.terms = sym c.if-not-all-carried.false ∙ c.all_carried.ensures ∙ (λ i. all_carried (c.carries-drift.ensures i) (c.as-slice.ensures.value i)) in
+    let carried : true ≡ all_carried g.K.Number.drifts t.terms = sym c.if-not-all-carried.false ∙ c.all_carried.ensures ∙ (λ i. all_carried (c.carries_drift.ensures i) (c.as_slice.ensures.value i)) in
     let filled = subst (Filled g.K.Number.means (number_at (turned t)) c.args.work.now c.loop-place.work) all c.loop-place.invariant in
     record {
       answer = sym (le-leb (numbers (degrees_of t.axes)) (length c.args.work.now) fits) ∙ ap (λ b. b && leb (numbers (degrees_of t.axes)) (length c.args.work.now)) carried;

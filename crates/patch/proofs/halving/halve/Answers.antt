@@ -33,7 +33,7 @@ returns-then-not-has-room g c =
     let ns = c.args.degrees.now in
     let s = of_shape ns c.args.axis c.in-Some.shape (sym c.in-Some.is ∙ c.shape.ensures) in
     record {
-      answer = no_room m.limit ns c.args.axis c.args.start (map m.means c.args.work.now) s.0 (room_is m.means ns c.args.axis c.args.start c.args.work.now c.in-Some.shape s.2 c.has-room.result c.has-room.ensures ∙ c.if-not-has-room.true);
+      answer = no_room m.limit ns c.args.axis c.args.start (map m.means c.args.work.now) s.0 (room_is m.means ns c.args.axis c.args.start c.args.work.now c.in-Some.shape s.2 c.has_room.result c.has_room.ensures ∙ c.if-not-has-room.true);
       halved = not_both;
       refused = λ _. search rules;
       represents = half_represents;
@@ -50,7 +50,7 @@ returns-then-not-all-grow g c =
     let s = of_shape ns j c.in-Some.shape (sym c.in-Some.is ∙ c.shape.ensures) in
     let grown = growth_is m.means ns j start work c.in-Some.shape s.2 m.limit c.all_grow.result c.all_grow.ensures in
     record {
-      answer = sym (grown ∙ c.if-not-all-grow.true) ∙ by_growth m.limit ns j start (map m.means work) s.0 (room_is m.means ns j start work c.in-Some.shape s.2 c.has-room.result c.has-room.ensures ∙ c.if-not-has-room.false);
+      answer = sym (grown ∙ c.if-not-all-grow.true) ∙ by_growth m.limit ns j start (map m.means work) s.0 (room_is m.means ns j start work c.in-Some.shape s.2 c.has_room.result c.has_room.ensures ∙ c.if-not-has-room.false);
       halved = not_both;
       refused = λ _. search rules;
       represents = half_represents;
@@ -66,7 +66,7 @@ split-requires g c =
     let work = c.args.work.now in
     let shape = c.in-Some.shape in
     let s = of_shape ns j shape (sym c.in-Some.is ∙ c.shape.ensures) in
-    let fits = leb-true (start + (shape.size + shape.size)) (length work) (sym c.has-room.ensures ∙ c.if-not-has-room.false) in
+    let fits = leb-true (start + (shape.size + shape.size)) (length work) (sym c.has_room.ensures ∙ c.if-not-has-room.false) in
     let len = length-map work m.means in
     let size = ap (λ s. s.size) s.2 in
     record {
@@ -87,13 +87,13 @@ returns g c =
     let work = c.args.work.now in
     let shape = c.in-Some.shape in
     let s = of_shape ns j shape (sym c.in-Some.is ∙ c.shape.ensures) in
-    let fits = leb-true (start + (shape.size + shape.size)) (length work) (sym c.has-room.ensures ∙ c.if-not-has-room.false) in
+    let fits = leb-true (start + (shape.size + shape.size)) (length work) (sym c.has_room.ensures ∙ c.if-not-has-room.false) in
     let old = length-map work m.means in
     let new = length-map c.split.new.work m.means in
     let size = ap (λ s. s.size) s.2 in
     let grown = growth_is m.means ns j start work shape s.2 m.limit c.all_grow.result c.all_grow.ensures in
     record {
-      answer = sym (grown ∙ c.if-not-all-grow.false) ∙ by_growth m.limit ns j start (map m.means work) s.0 (room_is m.means ns j start work shape s.2 c.has-room.result c.has-room.ensures ∙ c.if-not-has-room.false);
+      answer = sym (grown ∙ c.if-not-all-grow.false) ∙ by_growth m.limit ns j start (map m.means work) s.0 (room_is m.means ns j start work shape s.2 c.has_room.result c.has_room.ensures ∙ c.if-not-has-room.false);
       halved = λ _.
           halved_is c.args.first ns j start (map m.means work) (map m.means c.split.new.work) s.0 (omega arith) (omega arith)
           (subst (λ s. Split c.args.first s.degree s.stride s.size start (pair_at (map m.means work)) (pair_at (map m.means c.split.new.work))) s.2 c.split.ensures);

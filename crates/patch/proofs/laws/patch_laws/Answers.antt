@@ -15,7 +15,7 @@ returns c = record {
   turned = turned_is_same;
   fractions = fractions_agree;
   whole = whole_covers;
-  whole-placed = whole_is_placed;
-  half-placed = half_is_placed;
+  whole_placed = whole_is_placed;
+  half_placed = half_is_placed;
   bounded = first_patch_is_bounded;
 }

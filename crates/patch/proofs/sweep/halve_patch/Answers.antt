@@ -47,7 +47,7 @@ halve-block-requires g c =
 pub loop-b-preserved : goal.loop-b-preserved
 loop-b-preserved g c =
     let m = g.K.Number in
-    done_more c.args.half c.args.n c.args.stride c.args.start (pair_at (map m.means c.args.work.now)) c.loop-b.b (pair_at (map m.means c.loop-b.work)) (pair_at (map m.means c.halve-block.new.work)) c.requires.some c.loop-b.invariant c.halve-block.ensures.halved c.halve-block.ensures.kept
+    done_more c.args.half c.args.n c.args.stride c.args.start (pair_at (map m.means c.args.work.now)) c.loop-b.b (pair_at (map m.means c.loop-b.work)) (pair_at (map m.means c.halve_block.new.work)) c.requires.some c.loop-b.invariant c.halve_block.ensures.halved c.halve_block.ensures.kept
 
 pub returns : goal.returns
 returns g c =

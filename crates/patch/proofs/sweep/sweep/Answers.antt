@@ -69,9 +69,9 @@ loop-t-preserved g c =
     let j = c.args.j in
     let t = c.loop-t.t in
     let is = pair_at (map m.means c.loop-t.work) in
-    let new = pair_at (map m.means c.add-row.new.work) in
+    let new = pair_at (map m.means c.add_row.new.work) in
     let a : c.row.result ≡ row_of h n (n - t) = c.row.ensures.0 in
     let b : c.row-in-loop-t.result ≡ row_of h n (added_row j (n - t)) = c.row-in-loop-t.ensures.0 ∙ ap (row_of h n) c.before-v.ensures in
     staged_more h n s base j (pair_at (map m.means c.args.work.now)) t is new (omega arith) c.loop-t.invariant
-    (λ i l. moved (λ x y. new (base + x * s + i) ≡ sum (is (base + x * s + i)) (is (base + y * s + i))) a b (c.add-row.ensures.sums i l))
-    (moved (λ x _. Kept (base + x * s) (base + x * s + s) new is) a b c.add-row.ensures.kept)
+    (λ i l. moved (λ x y. new (base + x * s + i) ≡ sum (is (base + x * s + i)) (is (base + y * s + i))) a b (c.add_row.ensures.sums i l))
+    (moved (λ x _. Kept (base + x * s) (base + x * s + s) new is) a b c.add_row.ensures.kept)

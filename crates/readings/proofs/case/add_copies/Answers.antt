@@ -7,5 +7,5 @@ loop-init c = sym (append-nil _)
 
 pub loop-preserved : goal.loop-preserved
 loop-preserved c =
-    one_more (vec_items c.args.bytes.now) (vec_items c.loop.bytes) (vec_items c.extend-from-slice.new.self) c.args.once.now
+    one_more (vec_items c.args.bytes.now) (vec_items c.loop.bytes) (vec_items c.extend_from_slice.new.self) c.args.once.now
     c.loop.counter c.loop.invariant c.in-ok-extend-from-slice.ensures.items

@@ -20,7 +20,7 @@ returns-in-err-check-3 c =
       value = exit c.from-residual-in-err-check-3.ensures.1
           (through _ (told _ (none_told _ _ c.is-none.ensures) c.in-ok-check.ensures)
           (is_axis _ _ _ _ kind
-          (stops _ (told _ c.takes-axis.ensures.value c.in-err-check-3.ensures))));
+          (stops _ (told _ c.takes_axis.ensures.value c.in-err-check-3.ensures))));
       room = IfOk-from_err _ _ c.from-residual-in-err-check-3.ensures.0;
     }
 
@@ -32,7 +32,7 @@ returns-in-err-axis c =
       value = exit c.from-residual-in-err-axis.ensures.1
           (through _ (told _ (none_told _ _ c.is-none.ensures) c.in-ok-check.ensures)
           (is_axis _ _ _ _ kind
-          (through _ (told _ c.takes-axis.ensures.value c.in-ok-check-3.ensures)
+          (through _ (told _ c.takes_axis.ensures.value c.in-ok-check-3.ensures)
           (stops _ (axis_rest c.args.bytes.now 12 _ _ _ _ _ c.in-err-axis.ensures)))));
       room = IfOk-from_err _ _ c.from-residual-in-err-axis.ensures.0;
     }
@@ -44,9 +44,9 @@ returns-in-ok-axis c =
     record {
       value = through _ (told _ (none_told _ _ c.is-none.ensures) c.in-ok-check.ensures)
           (is_axis _ _ _ _ kind
-          (through _ (told _ c.takes-axis.ensures.value c.in-ok-check-3.ensures)
+          (through _ (told _ c.takes_axis.ensures.value c.in-ok-check-3.ensures)
           (through _ (axis_rest c.args.bytes.now 12 _ _ _ _ _ c.in-ok-axis.ensures) refl)));
-      room = c.takes-axis.ensures.room (passed _ _ _ c.in-ok-check-3.ensures);
+      room = c.takes_axis.ensures.room (passed _ _ _ c.in-ok-check-3.ensures);
     }
 
 pub returns-in-err-check-2 : goal.returns-in-err-check-2
@@ -57,7 +57,7 @@ returns-in-err-check-2 c =
       value = exit c.from-residual-in-err-check-2.ensures.1
           (through _ (told _ (none_told _ _ c.is-none.ensures) c.in-ok-check.ensures)
           (is_term _ _ _ _ kind
-          (stops _ (told _ c.takes-term.ensures.value c.in-err-check-2.ensures))));
+          (stops _ (told _ c.takes_term.ensures.value c.in-err-check-2.ensures))));
       room = IfOk-from_err _ _ c.from-residual-in-err-check-2.ensures.0;
     }
 
@@ -69,7 +69,7 @@ returns-in-err-term c =
       value = exit c.from-residual-in-err-term.ensures.1
           (through _ (told _ (none_told _ _ c.is-none.ensures) c.in-ok-check.ensures)
           (is_term _ _ _ _ kind
-          (through _ (told _ c.takes-term.ensures.value c.in-ok-check-2.ensures)
+          (through _ (told _ c.takes_term.ensures.value c.in-ok-check-2.ensures)
           (stops _ c.in-err-term.ensures))));
       room = IfOk-from_err _ _ c.from-residual-in-err-term.ensures.0;
     }
@@ -81,9 +81,9 @@ returns-in-ok-term c =
     record {
       value = through _ (told _ (none_told _ _ c.is-none.ensures) c.in-ok-check.ensures)
           (is_term _ _ _ _ kind
-          (through _ (told _ c.takes-term.ensures.value c.in-ok-check-2.ensures)
+          (through _ (told _ c.takes_term.ensures.value c.in-ok-check-2.ensures)
           (through _ c.in-ok-term.ensures refl)));
-      room = c.takes-term.ensures.room (passed _ _ _ c.in-ok-check-2.ensures);
+      room = c.takes_term.ensures.room (passed _ _ _ c.in-ok-check-2.ensures);
     }
 
 pub returns-in-err-check-4 : goal.returns-in-err-check-4
@@ -94,7 +94,7 @@ returns-in-err-check-4 c =
       value = exit c.from-residual-in-err-check-4.ensures.1
           (through _ (told _ (none_told _ _ c.is-none.ensures) c.in-ok-check.ensures)
           (is_question _ _ _ _ kind
-          (stops _ (told _ c.takes-question.ensures c.in-err-check-4.ensures))));
+          (stops _ (told _ c.takes_question.ensures c.in-err-check-4.ensures))));
       room = IfOk-from_err _ _ c.from-residual-in-err-check-4.ensures.0;
     }
 
@@ -106,7 +106,7 @@ returns-in-err-question c =
       value = exit c.from-residual-in-err-question.ensures.1
           (through _ (told _ (none_told _ _ c.is-none.ensures) c.in-ok-check.ensures)
           (is_question _ _ _ _ kind
-          (through _ (told _ c.takes-question.ensures c.in-ok-check-4.ensures)
+          (through _ (told _ c.takes_question.ensures c.in-ok-check-4.ensures)
           (stops _ (question_rest c.args.bytes.now 3 _ _ _ c.in-err-question.ensures)))));
       room = IfOk-from_err _ _ c.from-residual-in-err-question.ensures.0;
     }
@@ -118,7 +118,7 @@ returns-in-ok-question c =
     record {
       value = through _ (told _ (none_told _ _ c.is-none.ensures) c.in-ok-check.ensures)
           (is_question _ _ _ _ kind
-          (through _ (told _ c.takes-question.ensures c.in-ok-check-4.ensures)
+          (through _ (told _ c.takes_question.ensures c.in-ok-check-4.ensures)
           (through _ (question_rest c.args.bytes.now 3 _ _ _ c.in-ok-question.ensures) refl)));
       room = tt;
     }

@@ -9,12 +9,12 @@ pub returns-in-err-check : goal.returns-in-err-check
 returns-in-err-check c =
     exit c.from-residual.ensures.1
     (from_stops _ _ _ c.args.terms.now _ c.loop-k.k (search rules) c.loop-k.invariant
-    (told _ c.is-carried.ensures c.in-err-check.ensures))
+    (told _ c.is_carried.ensures c.in-err-check.ensures))
 
 pub loop-k-preserved : goal.loop-k-preserved
 loop-k-preserved c =
     from_goes _ _ _ c.args.terms.now _ c.loop-k.k (search rules) c.loop-k.invariant
-    (told _ c.is-carried.ensures c.in-ok-check.ensures)
+    (told _ c.is_carried.ensures c.in-ok-check.ensures)
 
 pub returns : goal.returns
 returns c = from_end _ _ _ c.args.terms.now c.loop-k.k (search rules) ∙ sym c.loop-k.invariant

@@ -27,13 +27,13 @@ returns-then-not-write-first-patch g c =
     let k = c.args.self.now in
     let work = map g.K.Number.means c.args.work.now in
     let never : all_carried g.K.Number.drifts (ticket_of k).terms ≡ true → ⊥ = λ carried.
-    let t : c.write-first-patch.result ≡ true = c.write-first-patch.ensures.answer ∙ may_begin_anew (ticket_of k) (length c.args.work.now) c.args.depth (model k work) (c.in-None.ensures work) g.K.Number.drifts carried in
-    let u : c.write-first-patch.result ≡ false = c.if-not-write-first-patch.true in
+    let t : c.write_first_patch.result ≡ true = c.write_first_patch.ensures.answer ∙ may_begin_anew (ticket_of k) (length c.args.work.now) c.args.depth (model k work) (c.in-None.ensures work) g.K.Number.drifts carried in
+    let u : c.write_first_patch.result ≡ false = c.if-not-write-first-patch.true in
     void (cc (t, u)) in
     record {
       answer = λ carried μ. absurd (never carried);
       next = λ carried μ. absurd (never carried);
-      refused = (refl, c.write-first-patch.ensures.refused c.if-not-write-first-patch.true);
+      refused = (refl, c.write_first_patch.ensures.refused c.if-not-write-first-patch.true);
       same = refl;
     }
 
@@ -49,13 +49,13 @@ returns g c =
     let f = g.K.Number.means in
     let work = map f c.args.work.now in
     let granted = c.in-None.ensures work in
-    let wrote : c.write-first-patch.result ≡ true = c.if-not-write-first-patch.false in
+    let wrote : c.write_first_patch.result ≡ true = c.if-not-write-first-patch.false in
     let len = length c.args.work.now in
     record {
       answer = λ _ μ. deepened_reply (ticket_of k) len c.args.depth (model k work) granted g.K.Number.limit μ;
       next = λ _ μ.
-          c.restart.ensures.starts (map f c.write-first-patch.new.work) (first_patch_is_begun f (ticket_of k) k.size c.args.work.now c.write-first-patch.new.work k.sized (c.write-first-patch.ensures.begun wrote))
+          c.restart.ensures.starts (map f c.write_first_patch.new.work) (first_patch_is_begun f (ticket_of k) k.size c.args.work.now c.write_first_patch.new.work k.sized (c.write_first_patch.ensures.begun wrote))
           ∙ deepened_next (ticket_of k) len c.args.depth (model k work) granted g.K.Number.limit μ;
-      refused = (and_parts (all_carried g.K.Number.drifts (ticket_of k).terms) (leb (numbers (degrees_of (ticket_of k).axes)) len) (sym c.write-first-patch.ensures.answer ∙ wrote)).0;
+      refused = (and_parts (all_carried g.K.Number.drifts (ticket_of k).terms) (leb (numbers (degrees_of (ticket_of k).axes)) len) (sym c.write_first_patch.ensures.answer ∙ wrote)).0;
       same = c.restart.ensures.same;
     }

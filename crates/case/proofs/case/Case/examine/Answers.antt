@@ -66,8 +66,8 @@ returns-in-Deep g c =
     let f = g.K.Number.means in
     let work = c.args.work.now in
     record {
-      steps = deep_steps k c.requires.waits g.K.Number.limit (g.C.Chooser.meaning c.args.chooser.now) (map f work) _ (patch_lent f work (newest_start k) k.size) _ c.in-Deep.ensures.answer (c.set-aside-for-depth.ensures.becomes (map f work));
-      same = c.set-aside-for-depth.ensures.same;
+      steps = deep_steps k c.requires.waits g.K.Number.limit (g.C.Chooser.meaning c.args.chooser.now) (map f work) _ (patch_lent f work (newest_start k) k.size) _ c.in-Deep.ensures.answer (c.set_aside_for_depth.ensures.becomes (map f work));
+      same = c.set_aside_for_depth.ensures.same;
       chooses = c.judge.ensures.same;
     }
 
@@ -77,7 +77,7 @@ returns-in-Undecided g c =
     let f = g.K.Number.means in
     let work = c.args.work.now in
     record {
-      steps = undecided_steps k c.requires.waits g.K.Number.limit (g.C.Chooser.meaning c.args.chooser.now) (map f work) _ (patch_lent f work (newest_start k) k.size) c.in-Undecided.axis c.in-Undecided.first c.in-Undecided.ensures.answer _ c.halve-newest.ensures.becomes;
-      same = c.halve-newest.ensures.same;
+      steps = undecided_steps k c.requires.waits g.K.Number.limit (g.C.Chooser.meaning c.args.chooser.now) (map f work) _ (patch_lent f work (newest_start k) k.size) c.in-Undecided.axis c.in-Undecided.first c.in-Undecided.ensures.answer _ c.halve_newest.ensures.becomes;
+      same = c.halve_newest.ensures.same;
       chooses = c.judge.ensures.same;
     }

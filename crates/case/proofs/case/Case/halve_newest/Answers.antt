@@ -44,6 +44,6 @@ returns-else-halve g c =
     ∙ only_growth_is_asked g.K.Number.limit ns c.args.axis c.args.start k.size (map f old) axis k.sized fits in
     let left : map f c.halve.new.work ≡ map f old = ap (map f) (c.halve.ensures.refused c.if-halve.false) in
     record {
-      becomes = ap (model c.set-aside-for-range.new.self) left ∙ too_large_becomes k c.args.start c.args.axis c.args.first c.requires.begins (map f old) _ _ (sym asked ∙ c.if-halve.false) (c.set-aside-for-range.ensures.becomes (map f old));
-      same = c.set-aside-for-range.ensures.same;
+      becomes = ap (model c.set_aside_for_range.new.self) left ∙ too_large_becomes k c.args.start c.args.axis c.args.first c.requires.begins (map f old) _ _ (sym asked ∙ c.if-halve.false) (c.set_aside_for_range.ensures.becomes (map f old));
+      same = c.set_aside_for_range.ensures.same;
     }

@@ -21,11 +21,11 @@ returns-in-None g c =
     let len = length c.args.work.now in
     let s = model k (map g.K.Number.means c.args.work.now) in
     let granted = c.in-None.ensures (map g.K.Number.means c.args.work.now) in
-    let e = c.examine-up-to.ensures.steps in
+    let e = c.examine_up_to.ensures.steps in
     record {
-      answer = granted_reply t limit μ len c.args.n s c.examine-up-to.result granted c.examine-up-to.ensures.count;
+      answer = granted_reply t limit μ len c.args.n s c.examine_up_to.result granted c.examine_up_to.ensures.count;
       next = granted_next t limit μ len c.args.n s _ granted e;
-      bounds = omega (arith, examined_within_ceiling c.examine-up-to.new.self, ap (λ x. x.examined) e, ap (λ x. ceiling x.depth) e, ap ceiling (steps_same_depth t limit μ c.args.n s), run_examines t limit μ c.args.n s, c.examine-up-to.ensures.count);
-      same = c.examine-up-to.ensures.same;
-      chooses = c.examine-up-to.ensures.chooses;
+      bounds = omega (arith, examined_within_ceiling c.examine_up_to.new.self, ap (λ x. x.examined) e, ap (λ x. ceiling x.depth) e, ap ceiling (steps_same_depth t limit μ c.args.n s), run_examines t limit μ c.args.n s, c.examine_up_to.ensures.count);
+      same = c.examine_up_to.ensures.same;
+      chooses = c.examine_up_to.ensures.chooses;
     }

@@ -8,11 +8,11 @@ returns-then-not-has-room g c =
     let k = c.args.self.now in
     let n : is_run c.args.n ≡ true = may_be_run c.args.n c.if-n-eq0.false c.if-n-gt65535.false in
     let l : 0 < k.waiting.len = omega (arith, c.if-self-eq0.false) in
-    λ work. refused_room k work c.args.length c.args.n n l (sym c.has-room.ensures ∙ c.if-not-has-room.true)
+    λ work. refused_room k work c.args.length c.args.n n l (sym c.has_room.ensures ∙ c.if-not-has-room.true)
 
 pub returns : goal.returns
 returns g c =
     let k = c.args.self.now in
     let n : is_run c.args.n ≡ true = may_be_run c.args.n c.if-n-eq0.false c.if-n-gt65535.false in
     let l : 0 < k.waiting.len = omega (arith, c.if-self-eq0.false) in
-    λ work. not_refused k work c.args.length c.args.n n l (sym c.has-room.ensures ∙ c.if-not-has-room.false)
+    λ work. not_refused k work c.args.length c.args.n n l (sym c.has_room.ensures ∙ c.if-not-has-room.false)

@@ -23,7 +23,7 @@ overflow-add-self g c = let h : c.args.self.now.examined + 1 < 2 ^ 32 = examined
 pub invariant-of-self : goal.invariant-of-self
 invariant-of-self g c =
     let k = c.args.self.now in
-    (k.shaped, (k.sized, (k.bounded, (split_sound k c.requires.waits c.halve-top.new.self c.args.axis c.args.first c.requires.inside c.requires.shallow c.halve-top.ensures, tt))))
+    (k.shaped, (k.sized, (k.bounded, (split_sound k c.requires.waits c.halve_top.new.self c.args.axis c.args.first c.requires.inside c.requires.shallow c.halve_top.ensures, tt))))
 
 pub returns : goal.returns
 returns g c =
@@ -31,6 +31,6 @@ returns g c =
     let w = c.requires.waits in
     let e : newest_start k ≡ (length (held k.waiting) - 1) * k.size = ap (λ n. (n - 1) * k.size) (sym (as_many_newest k.waiting.len k.waiting.records)) in
     record {
-      splits = λ before after side. splits (ticket_of k) (model k before) (axes k) k.size (held k.waiting) (held c.halve-top.new.self) (some_held k w) c.args.axis c.args.first c.requires.inside (newest_start k) before after e (omega (arith, four_halvings k w, c.requires.inside, few_axes k)) (omega (arith, four_places k w, c.requires.inside, few_axes k)) c.halve-top.ensures side;
+      splits = λ before after side. splits (ticket_of k) (model k before) (axes k) k.size (held k.waiting) (held c.halve_top.new.self) (some_held k w) c.args.axis c.args.first c.requires.inside (newest_start k) before after e (omega (arith, four_halvings k w, c.requires.inside, few_axes k)) (omega (arith, four_places k w, c.requires.inside, few_axes k)) c.halve_top.ensures side;
       same = refl;
     }
