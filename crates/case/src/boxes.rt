@@ -2,7 +2,7 @@
 ghost use Rattle.std.specs.Prelude.{◌≡◌, ℕ, ◌^◌, ◌<◌, ◌≤◌, map, length, take, slice_index, slice_index_or};
 ghost use Rattle.algebra.specs.Form.{other as other_half};
 ghost use Rattle.patch.specs.Point.{sum_of};
-ghost use Rattle.patch.specs.Box.{half_place, ends_of as ends-of-part, box_ends as ends-of-box};
+ghost use Rattle.patch.specs.Box.{half_place, ends_of as ends_of_part, box_ends as ends_of_box};
 ghost use Rattle.patch.specs.Corners.{ends_of};
 ghost use Rattle.case.specs.Records.{part_of, box_of, half_record};
 
@@ -60,7 +60,7 @@ impl Record {
 // Which ends of a part of an axis belong to it: where halves meet both do, and another end is the axis's own.
 fn part_ends(axis: &Axis, halvings: u8, place: u32) -> Ends
     requires { halvings ≤ 24 }
-    ensures { ends_of result ≡ ends-of-part axis.now (part_of halvings place) }
+    ensures { ends_of result ≡ ends_of_part axis.now (part_of halvings place) }
 {
     Ends {
         lower_closed: !(axis.lower_open && place == 0),
@@ -72,7 +72,7 @@ fn part_ends(axis: &Axis, halvings: u8, place: u32) -> Ends
 pub(crate) fn box_ends(axes: &[Axis], record: &Record) -> [Ends; 4]
     requires few { (length axes.now ≤ length «record».now.halvings) × ((length axes.now ≤ length «record».now.places) × (length axes.now ≤ 4)) }
     requires shallow { (j : ℕ) → j < length axes.now → slice_index_or «record».now.halvings j 0 ≤ 24 }
-    ensures { map ends_of (take (length axes.now) result) ≡ ends-of-box axes.now (box_of (length axes.now) «record».now) }
+    ensures { map ends_of (take (length axes.now) result) ≡ ends_of_box axes.now (box_of (length axes.now) «record».now) }
 {
     let closed = Ends {
         lower_closed: true,

@@ -57,9 +57,9 @@ impl<K: Number> Case<K> {
     // depth. A refusal changes nothing. A kind of number that does not carry the ticket's drifts cannot hold its first patch: for such
     // a case, which is never taken, nothing is promised but that the deepening is refused.
     pub fn deepen(&mut self, depth: u32, work: &mut [K]) -> Result<u32, CallRefusal>
-        ensures answer { all_carried drifts (ticket_of self.old).terms ≡ true → (μ : Meaning) → deepen_reply result ≡ reply (ticket_of self.old) limit μ (length work.old) (model self.old (map means work.old)) (Deepen depth) }
-        ensures next { all_carried drifts (ticket_of self.old).terms ≡ true → (μ : Meaning) → model self.new (map means work.new) ≡ next (ticket_of self.old) limit μ (length work.old) (model self.old (map means work.old)) (Deepen depth) }
-        ensures refused { MatchResult result (λ _. all_carried drifts (ticket_of self.old).terms ≡ true) (λ _. (self.new ≡ self.old) × (work.new ≡ work.old)) }
+        ensures answer { all_carried K.drifts (ticket_of self.old).terms ≡ true → (μ : Meaning) → deepen_reply result ≡ reply (ticket_of self.old) K.limit μ (length work.old) (model self.old (map K.means work.old)) (Deepen depth) }
+        ensures next { all_carried K.drifts (ticket_of self.old).terms ≡ true → (μ : Meaning) → model self.new (map K.means work.new) ≡ next (ticket_of self.old) K.limit μ (length work.old) (model self.old (map K.means work.old)) (Deepen depth) }
+        ensures refused { MatchResult result (λ _. all_carried K.drifts (ticket_of self.old).terms ≡ true) (λ _. (self.new ≡ self.old) × (work.new ≡ work.old)) }
         ensures same { ticket_of self.new ≡ ticket_of self.old }
     {
         match self.deepen_refusal(depth, work.len()) {

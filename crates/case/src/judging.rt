@@ -32,8 +32,8 @@ fn ask<K: Number, C: Chooser>(
     chooser: &mut C,
 ) -> (usize, Half)
     requires { length patch.now ≤ 128 }
-    ensures answer { result ≡ meaning chooser.old (told degrees.now halvings.now depth (map means patch.now)) }
-    ensures same { meaning chooser.new ≡ meaning chooser.old }
+    ensures answer { result ≡ C.meaning chooser.old (told degrees.now halvings.now depth (map K.means patch.now)) }
+    ensures same { C.meaning chooser.new ≡ C.meaning chooser.old }
 {
     let mut signs = [Sign::Zero; 128];
     let _ = write_signs(patch, &mut signs);
@@ -50,8 +50,8 @@ impl<K: Number> Case<K> {
     pub(crate) fn judge<C: Chooser>(&self, patch: &[K], chooser: &mut C) -> Judgement
         requires waits { 0 < self.now.waiting.len }
         requires whole { length patch.now ≡ self.now.size }
-        ensures answer { result ≡ judgement (ticket_of self.now) (meaning chooser.old) self.now.depth (newest_with self.now (map means patch.now)) }
-        ensures same { meaning chooser.new ≡ meaning chooser.old }
+        ensures answer { result ≡ judgement (ticket_of self.now) (C.meaning chooser.old) self.now.depth (newest_with self.now (map K.means patch.now)) }
+        ensures same { C.meaning chooser.new ≡ C.meaning chooser.old }
     {
         let relation = turned(self.ticket.ticket.relation);
         if all_satisfy(relation, patch) {

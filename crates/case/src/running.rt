@@ -28,7 +28,7 @@ impl<K: Number> Case<K> {
         requires inside { axis < length (ticket_of self.old).axes }
         requires shallow { level (box_of (length (ticket_of self.old).axes) (newest_of self.old.waiting)) < self.old.depth }
         requires room { (self.old.depth + 3) * self.old.size ≤ length work.old }
-        ensures becomes { model self.new (map means work.new) ≡ after_newest (ticket_of self.old) (model self.old (map means work.old)) (model self.old (map means work.old)).waiting (halves_or_aside (all_grow limit (slice_index (degrees_of (ticket_of self.old).axes) axis) (part start self.old.size (map means work.old))) (ticket_of self.old) first axis (newest_with self.old (part start self.old.size (map means work.old)))) }
+        ensures becomes { model self.new (map K.means work.new) ≡ after_newest (ticket_of self.old) (model self.old (map K.means work.old)) (model self.old (map K.means work.old)).waiting (halves_or_aside (all_grow K.limit (slice_index (degrees_of (ticket_of self.old).axes) axis) (part start self.old.size (map K.means work.old))) (ticket_of self.old) first axis (newest_with self.old (part start self.old.size (map K.means work.old)))) }
         ensures same { ticket_of self.new ≡ ticket_of self.old }
     {
         let axes = self.ticket.ticket.axes.as_slice().len();
@@ -43,9 +43,9 @@ impl<K: Number> Case<K> {
     fn examine<C: Chooser>(&mut self, work: &mut [K], chooser: &mut C)
         requires waits { 0 < self.old.waiting.len }
         requires room { (self.old.depth + 3) * self.old.size ≤ length work.old }
-        ensures steps { model self.new (map means work.new) ≡ step (ticket_of self.old) limit (meaning chooser.old) (model self.old (map means work.old)) }
+        ensures steps { model self.new (map K.means work.new) ≡ step (ticket_of self.old) K.limit (C.meaning chooser.old) (model self.old (map K.means work.old)) }
         ensures same { ticket_of self.new ≡ ticket_of self.old }
-        ensures chooses { meaning chooser.new ≡ meaning chooser.old }
+        ensures chooses { C.meaning chooser.new ≡ C.meaning chooser.old }
     {
         let start = (self.waiting.len - 1) * self.size;
         let end = start + self.size;
@@ -84,10 +84,10 @@ impl<K: Number> Case<K> {
     // Examines boxes until n are done or none waits, and answers how many.
     fn examine_up_to<C: Chooser>(&mut self, n: u32, work: &mut [K], chooser: &mut C) -> u32
         requires { (self.old.depth + 3) * patch_count (ticket_of self.old).axes ≤ length work.old }
-        ensures count { result ≡ examined_by (ticket_of self.old) limit (meaning chooser.old) n (model self.old (map means work.old)) }
-        ensures steps { model self.new (map means work.new) ≡ steps (ticket_of self.old) limit (meaning chooser.old) n (model self.old (map means work.old)) }
+        ensures count { result ≡ examined_by (ticket_of self.old) K.limit (C.meaning chooser.old) n (model self.old (map K.means work.old)) }
+        ensures steps { model self.new (map K.means work.new) ≡ steps (ticket_of self.old) K.limit (C.meaning chooser.old) n (model self.old (map K.means work.old)) }
         ensures same { ticket_of self.new ≡ ticket_of self.old }
-        ensures chooses { meaning chooser.new ≡ meaning chooser.old }
+        ensures chooses { C.meaning chooser.new ≡ C.meaning chooser.old }
     {
         let mut done: u32 = 0;
         while done < n {
@@ -109,11 +109,11 @@ impl<K: Number> Case<K> {
         work: &mut [K],
         chooser: &mut C,
     ) -> Result<u32, CallRefusal>
-        ensures answer { run_reply result ≡ reply (ticket_of self.old) limit (meaning chooser.old) (length work.old) (model self.old (map means work.old)) (Run n) }
-        ensures next { model self.new (map means work.new) ≡ next (ticket_of self.old) limit (meaning chooser.old) (length work.old) (model self.old (map means work.old)) (Run n) }
+        ensures answer { run_reply result ≡ reply (ticket_of self.old) K.limit (C.meaning chooser.old) (length work.old) (model self.old (map K.means work.old)) (Run n) }
+        ensures next { model self.new (map K.means work.new) ≡ next (ticket_of self.old) K.limit (C.meaning chooser.old) (length work.old) (model self.old (map K.means work.old)) (Run n) }
         ensures bounds { MatchResult result (λ k. self.old.examined + k ≤ ceiling self.old.depth) (λ _. (self.new ≡ self.old) × (work.new ≡ work.old)) }
         ensures same { ticket_of self.new ≡ ticket_of self.old }
-        ensures chooses { meaning chooser.new ≡ meaning chooser.old }
+        ensures chooses { C.meaning chooser.new ≡ C.meaning chooser.old }
     {
         match self.run_refusal(n, work.len()) {
             Some(why) => Err(why),

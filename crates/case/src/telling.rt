@@ -1,7 +1,7 @@
 // Where a case stands.
 ghost use Rattle.std.specs.Prelude.{◌≡◌, List};
 ghost use Rattle.algebra.specs.Pair.{Pair};
-ghost use Rattle.search.specs.Search.{word as word-of-search, verdict_of};
+ghost use Rattle.search.specs.Search.{word as word_of_search, verdict_of};
 ghost use Rattle.case.specs.Model.{model};
 
 use crate::case::Case;
@@ -11,7 +11,7 @@ use search::{Verdict, Word};
 impl<K: Number> Case<K> {
     // What is known so far, whatever the workspace holds.
     pub(crate) fn word(&self) -> Word
-        ensures { (work : List Pair) → result ≡ word-of-search (model self.now work) }
+        ensures { (work : List Pair) → result ≡ word_of_search (model self.now work) }
     {
         if self.waiting.len > 0 {
             return Word::Running;

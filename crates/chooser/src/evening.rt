@@ -1,7 +1,7 @@
 // A layer that keeps the halvings of the axes close to each other.
 ghost use Rattle.std.specs.Prelude.{◌≡◌, true, false, MatchResult, slice_index};
 ghost use Rattle.chooser.specs.Asked.{asked};
-ghost use Rattle.chooser.specs.Evening.{is_gap, gap_refusal_number, least_halved, evening as evened-by};
+ghost use Rattle.chooser.specs.Evening.{is_gap, gap_refusal_number, least_halved, evening as evened_by};
 ghost use Rattle.chooser.specs.Picking.{evening_picks};
 
 use crate::chooser::Chooser;
@@ -70,7 +70,7 @@ fn least(question: Question) -> usize
 }
 
 impl<C: Chooser> Chooser for Evening<C> {
-    ghost meaning = { λ e. evened-by e.gap (C.Chooser.meaning e.below) };
+    ghost meaning = { λ e. evened_by e.gap (C.Chooser.meaning e.below) };
 
     ghost picks = { λ c. evening_picks c.gap (C.Chooser.meaning c.below) (C.Chooser.picks c.below) };
 

@@ -2,7 +2,7 @@
 ghost use Rattle.std.specs.Prelude.{true};
 ghost use Rattle.algebra.specs.Pair.{pair};
 ghost use Rattle.number.specs.Limits.{word};
-ghost use Rattle.std.proofs.Common.{rules, arith};
+ghost use Rattle.std.proofs.Common.{rules};
 
 use crate::kinds::Drifting;
 use crate::number::Number;
@@ -16,9 +16,9 @@ impl Number for Drifting {
 
     ghost drifts = { true };
 
-    ghost wide = { first_of (Prim.search rules, Prim.grind (arith, Self.row.coded.inj)) };
+    ghost wide = { Prim.search rules };
 
-    ghost within = { first_of (Prim.search rules, Prim.grind (arith, Self.row.coded.inj)) };
+    ghost within = { Prim.search rules };
 
     fn make(value: i64, drift: i64) -> Option<Drifting> {
         if in_word(value) && in_word(drift) {

@@ -2,7 +2,7 @@
 ghost use Rattle.std.specs.Prelude.{false, pos};
 ghost use Rattle.algebra.specs.Pair.{pair};
 ghost use Rattle.number.specs.Limits.{word};
-ghost use Rattle.std.proofs.Common.{rules, arith};
+ghost use Rattle.std.proofs.Common.{rules};
 
 use crate::kinds::Plain;
 use crate::number::Number;
@@ -16,9 +16,9 @@ impl Number for Plain {
 
     ghost drifts = { false };
 
-    ghost wide = { first_of (Prim.search rules, Prim.grind (arith, Self.row.coded.inj)) };
+    ghost wide = { Prim.search rules };
 
-    ghost within = { first_of (Prim.search rules, Prim.grind (arith, Self.row.coded.inj)) };
+    ghost within = { Prim.search rules };
 
     fn make(value: i64, drift: i64) -> Option<Plain> {
         if drift == 0 && in_word(value) {

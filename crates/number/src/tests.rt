@@ -16,7 +16,7 @@ const HALF: i64 = 1 << 61;
 
 // Twice a number of any kind. From the trait alone it follows that no sum is refused once growth was granted.
 fn doubled<K: Number>(x: K) -> Option<K>
-    ensures { option_map means result ≡ kept limit (multiple (pos 2) (means x)) }
+    ensures { option_map K.means result ≡ kept K.limit (multiple (pos 2) (K.means x)) }
 {
     if x.grows(1) { Some(x.add(x)) } else { None }
 }

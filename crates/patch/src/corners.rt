@@ -3,7 +3,7 @@ ghost use Rattle.std.specs.Prelude.{◌≡◌, ◌/◌, ◌%◌, ◌^◌, ◌<�
 ghost use Rattle.algebra.specs.Form.{end_index, corner_index};
 ghost use Rattle.algebra.specs.Layout.{place_of};
 ghost use Rattle.algebra.specs.Pair.{pairs, sign_of};
-ghost use Rattle.patch.specs.Judging.{closed, corner_inside, breaks as broken-at};
+ghost use Rattle.patch.specs.Judging.{closed, corner_inside, breaks as broken_at};
 ghost use Rattle.patch.specs.Corners.{ends_of, end_of, corner_of, lowest_broken, CornersAreNumbered};
 ghost use Rattle.patch.specs.Meaning.{FoundCornerIsFalse};
 
@@ -78,7 +78,7 @@ fn place(corner: u32, degrees: &[u8]) -> usize
 
 // The sign of a number of a patch. A number that is not there counts as zero.
 fn sign_at<K: Number>(numbers: &[K], place: usize) -> Sign
-    ensures { result ≡ sign_of (slice_index_or (map means numbers.now) place pairs.nought) }
+    ensures { result ≡ sign_of (slice_index_or (map K.means numbers.now) place pairs.nought) }
 {
     if place < numbers.len() {
         numbers[place].sign()
@@ -96,7 +96,7 @@ fn breaks<K: Number>(
     corner: u32,
 ) -> bool
     requires { length degrees.now ≤ 4 }
-    ensures { result ≡ broken-at relation degrees.now (map ends_of ends.now) (map means numbers.now) (corner_of (length degrees.now) corner) }
+    ensures { result ≡ broken_at relation degrees.now (map ends_of ends.now) (map K.means numbers.now) (corner_of (length degrees.now) corner) }
 {
     inside(corner, degrees.len(), ends)
         && !satisfies(relation, sign_at(numbers, place(corner, degrees)))
@@ -110,7 +110,7 @@ pub fn broken_corner<K: Number>(
     ends: &[Ends],
     numbers: &[K],
 ) -> Option<u32>
-    ensures answer { result ≡ lowest_broken relation degrees.now (map ends_of ends.now) (map means numbers.now) }
+    ensures answer { result ≡ lowest_broken relation degrees.now (map ends_of ends.now) (map K.means numbers.now) }
     ensures meaning { FoundCornerIsFalse }
 {
     if degrees.len() > AXES {

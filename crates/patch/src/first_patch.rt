@@ -7,7 +7,7 @@ ghost use Rattle.ticket.specs.Law.{content};
 ghost use Rattle.ticket.specs.Sizes.{degrees_of};
 ghost use Rattle.patch.specs.Conversion.{Monomial};
 ghost use Rattle.patch.specs.Point.{pair_of, sum_over};
-ghost use Rattle.patch.specs.FirstPatch.{turned as turned-content, of_powers, number_at, pair_of_parts, turned_pair, Summable, all_carried as carries-all, may_begin, Begun};
+ghost use Rattle.patch.specs.FirstPatch.{turned as turned_content, of_powers, number_at, pair_of_parts, turned_pair, Summable, all_carried as carries_all, may_begin, Begun};
 ghost use Rattle.patch.specs.Meaning.{FirstPatchRepresents, WholeCovers};
 ghost use Rattle.patch.specs.Sizes.{FirstPatchIsBounded};
 
@@ -86,7 +86,7 @@ fn turned(relation: Relation, parts: Parts) -> Parts
 fn number_at(ticket: &SizedTicket, size: usize, place: usize) -> Parts
     requires whole { size ≡ numbers (degrees_of (content ticket.now.ticket).axes) }
     requires inside { place < size }
-    ensures { pair_of_parts result ≡ number_at (turned-content (content ticket.now.ticket)) place }
+    ensures { pair_of_parts result ≡ number_at (turned_content (content ticket.now.ticket)) place }
 {
     let axes = ticket.ticket.axes.as_slice();
     let terms = ticket.ticket.terms.as_slice();
@@ -95,8 +95,8 @@ fn number_at(ticket: &SizedTicket, size: usize, place: usize) -> Parts
 
 // A number of its parts, where the kind can make it.
 fn made<K: Number>(parts: Parts) -> K
-    requires { is_some (made_pair drifts parts.value parts.drift) ≡ true }
-    ensures { means result ≡ pair_of_parts parts }
+    requires { is_some (made_pair K.drifts parts.value parts.drift) ≡ true }
+    ensures { K.means result ≡ pair_of_parts parts }
 {
     match K::make(parts.value, parts.drift) {
         Some(number) => number,
@@ -106,7 +106,7 @@ fn made<K: Number>(parts: Parts) -> K
 
 // Whether a kind of number carries drift: exactly then it makes a number that drifts.
 fn carries_drift<K: Number>() -> bool
-    ensures { result ≡ drifts }
+    ensures { result ≡ K.drifts }
 {
     K::make(0, 1).is_some()
 }
@@ -119,7 +119,7 @@ fn is_carried(drifts: bool, term: &Term) -> bool
 }
 
 fn all_carried(drifts: bool, terms: &[Term]) -> bool
-    ensures { result ≡ carries-all drifts terms.now }
+    ensures { result ≡ carries_all drifts terms.now }
 {
     for term in terms {
         if !is_carried(drifts, term) {
@@ -133,8 +133,8 @@ fn all_carried(drifts: bool, terms: &[Term]) -> bool
 // workspace as it is, if the kind of number does not carry the drifts of the ticket, or there is no room. The patch represents the
 // polynomial on the whole box, which has every point of the ticket's, and its numbers are within the ticket's sizes.
 pub fn write_first_patch<K: Number>(ticket: &SizedTicket, work: &mut [K]) -> bool
-    ensures answer { result ≡ may_begin drifts (content ticket.now.ticket) (length work.old) }
-    ensures begun { result ≡ true → Begun means (content ticket.now.ticket) work.old work.new }
+    ensures answer { result ≡ may_begin K.drifts (content ticket.now.ticket) (length work.old) }
+    ensures begun { result ≡ true → Begun K.means (content ticket.now.ticket) work.old work.new }
     ensures refused { result ≡ false → work.new ≡ work.old }
     ensures represents { FirstPatchRepresents }
     ensures covers { WholeCovers }

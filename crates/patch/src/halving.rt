@@ -35,8 +35,8 @@ fn split<K: Number>(work: &mut [K], start: usize, shape: Shape, first: Half)
     requires fits { start + (shape.size + shape.size) ≤ length work.old }
     requires counts { shape.size ≡ shape.blocks * ((shape.degree + 1) * shape.stride) }
     requires some { 0 < shape.stride }
-    requires small { (p : ℕ) → p < shape.size → may_grow limit shape.degree (pair_at (map means work.old) (start + p)) ≡ true }
-    ensures { Split first shape.degree shape.stride shape.size start (pair_at (map means work.old)) (pair_at (map means work.new)) }
+    requires small { (p : ℕ) → p < shape.size → may_grow K.limit shape.degree (pair_at (map K.means work.old) (start + p)) ≡ true }
+    ensures { Split first shape.degree shape.stride shape.size start (pair_at (map K.means work.old)) (pair_at (map K.means work.new)) }
 {
     let n = shape.degree as usize;
     let end = start + shape.size;
@@ -55,8 +55,8 @@ pub fn halve<K: Number>(
     axis: usize,
     first: Half,
 ) -> bool
-    ensures answer { result ≡ may_halve limit degrees.now axis start (map means work.old) }
-    ensures halved { result ≡ true → Halved first degrees.now axis start (map means work.old) (map means work.new) }
+    ensures answer { result ≡ may_halve K.limit degrees.now axis start (map K.means work.old) }
+    ensures halved { result ≡ true → Halved first degrees.now axis start (map K.means work.old) (map K.means work.new) }
     ensures refused { result ≡ false → work.new ≡ work.old }
     ensures represents { HalfRepresents }
     ensures covers { HalvesCover }

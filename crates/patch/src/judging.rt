@@ -22,7 +22,7 @@ pub fn satisfies(relation: Relation, sign: Sign) -> bool
 
 // Whether all numbers of a patch satisfy the relation: then the polynomial does at every point of the box.
 pub fn all_satisfy<K: Number>(relation: Relation, numbers: &[K]) -> bool
-    ensures answer { result ≡ all_satisfy relation (map means numbers.now) }
+    ensures answer { result ≡ all_satisfy relation (map K.means numbers.now) }
     ensures meaning { AllSatisfiedIsTrueInside }
 {
     for x in numbers {
@@ -35,7 +35,7 @@ pub fn all_satisfy<K: Number>(relation: Relation, numbers: &[K]) -> bool
 
 // Whether all numbers of a patch may be doubled n times.
 pub fn all_grow<K: Number>(numbers: &[K], n: u32) -> bool
-    ensures { result ≡ all_grow limit n (map means numbers.now) }
+    ensures { result ≡ all_grow K.limit n (map K.means numbers.now) }
 {
     for x in numbers {
         if !x.grows(n) {
@@ -48,7 +48,7 @@ pub fn all_grow<K: Number>(numbers: &[K], n: u32) -> bool
 // Writes the signs of a patch's numbers to the start of a slice. A slice that is too short for them is left as it is.
 pub fn write_signs<K: Number>(numbers: &[K], signs: &mut [Sign]) -> bool
     ensures room { result ≡ nat_le (length numbers.now) (length signs.old) }
-    ensures signs { signs.new ≡ written result (signs_of (map means numbers.now)) signs.old }
+    ensures signs { signs.new ≡ written result (signs_of (map K.means numbers.now)) signs.old }
 {
     if signs.len() < numbers.len() {
         return false;

@@ -30,9 +30,9 @@ fn before(j: usize, u: usize) -> usize
 fn add_other_row<K: Number>(work: &mut [K], to: usize, from: usize, stride: usize)
     requires fits { (to + stride ≤ length work.old) × (from + stride ≤ length work.old) }
     requires apart { (to ≤ from) ⊎ (from + stride ≤ to) }
-    requires small { (i : ℕ) → i < stride → Within limit (sum (pair_at (map means work.old) (to + i)) (pair_at (map means work.old) (from + i))) }
-    ensures sums { (i : ℕ) → i < stride → pair_at (map means work.new) (to + i) ≡ sum (pair_at (map means work.old) (to + i)) (pair_at (map means work.old) (from + i)) }
-    ensures kept { Kept to (to + stride) (pair_at (map means work.new)) (pair_at (map means work.old)) }
+    requires small { (i : ℕ) → i < stride → Within K.limit (sum (pair_at (map K.means work.old) (to + i)) (pair_at (map K.means work.old) (from + i))) }
+    ensures sums { (i : ℕ) → i < stride → pair_at (map K.means work.new) (to + i) ≡ sum (pair_at (map K.means work.old) (to + i)) (pair_at (map K.means work.old) (from + i)) }
+    ensures kept { Kept to (to + stride) (pair_at (map K.means work.new)) (pair_at (map K.means work.old)) }
 {
     for i in 0..stride {
         work[to + i] = work[to + i].add(work[from + i]);
@@ -42,9 +42,9 @@ fn add_other_row<K: Number>(work: &mut [K], to: usize, from: usize, stride: usiz
 // Adds each number of a row to itself.
 fn double_row<K: Number>(work: &mut [K], to: usize, stride: usize)
     requires fits { to + stride ≤ length work.old }
-    requires small { (i : ℕ) → i < stride → Within limit (sum (pair_at (map means work.old) (to + i)) (pair_at (map means work.old) (to + i))) }
-    ensures sums { (i : ℕ) → i < stride → pair_at (map means work.new) (to + i) ≡ sum (pair_at (map means work.old) (to + i)) (pair_at (map means work.old) (to + i)) }
-    ensures kept { Kept to (to + stride) (pair_at (map means work.new)) (pair_at (map means work.old)) }
+    requires small { (i : ℕ) → i < stride → Within K.limit (sum (pair_at (map K.means work.old) (to + i)) (pair_at (map K.means work.old) (to + i))) }
+    ensures sums { (i : ℕ) → i < stride → pair_at (map K.means work.new) (to + i) ≡ sum (pair_at (map K.means work.old) (to + i)) (pair_at (map K.means work.old) (to + i)) }
+    ensures kept { Kept to (to + stride) (pair_at (map K.means work.new)) (pair_at (map K.means work.old)) }
 {
     for i in 0..stride {
         let x = work[to + i];
@@ -56,9 +56,9 @@ fn double_row<K: Number>(work: &mut [K], to: usize, stride: usize)
 fn add_row<K: Number>(work: &mut [K], to: usize, from: usize, stride: usize)
     requires fits { (to + stride ≤ length work.old) × (from + stride ≤ length work.old) }
     requires apart { (to ≤ from) ⊎ (from + stride ≤ to) }
-    requires small { (i : ℕ) → i < stride → Within limit (sum (pair_at (map means work.old) (to + i)) (pair_at (map means work.old) (from + i))) }
-    ensures sums { (i : ℕ) → i < stride → pair_at (map means work.new) (to + i) ≡ sum (pair_at (map means work.old) (to + i)) (pair_at (map means work.old) (from + i)) }
-    ensures kept { Kept to (to + stride) (pair_at (map means work.new)) (pair_at (map means work.old)) }
+    requires small { (i : ℕ) → i < stride → Within K.limit (sum (pair_at (map K.means work.old) (to + i)) (pair_at (map K.means work.old) (from + i))) }
+    ensures sums { (i : ℕ) → i < stride → pair_at (map K.means work.new) (to + i) ≡ sum (pair_at (map K.means work.old) (to + i)) (pair_at (map K.means work.old) (from + i)) }
+    ensures kept { Kept to (to + stride) (pair_at (map K.means work.new)) (pair_at (map K.means work.old)) }
 {
     if to == from {
         double_row(work, to, stride);
@@ -71,9 +71,9 @@ fn add_row<K: Number>(work: &mut [K], to: usize, from: usize, stride: usize)
 fn sweep<K: Number>(work: &mut [K], start: usize, n: usize, stride: usize, half: Half, j: usize)
     requires fits { start + (n + 1) * stride ≤ length work.old }
     requires some { 0 < stride }
-    requires small { (u v i : ℕ) → u ≤ n → v ≤ n → i < stride → Within limit (sum (pair_at (map means work.old) (spot half n stride start u i)) (pair_at (map means work.old) (spot half n stride start v i))) }
-    ensures sums { (u i : ℕ) → u ≤ n → i < stride → pair_at (map means work.new) (spot half n stride start u i) ≡ sum (pair_at (map means work.old) (spot half n stride start u i)) (pair_at (map means work.old) (spot half n stride start (added_row j u) i)) }
-    ensures kept { Kept start (start + (n + 1) * stride) (pair_at (map means work.new)) (pair_at (map means work.old)) }
+    requires small { (u v i : ℕ) → u ≤ n → v ≤ n → i < stride → Within K.limit (sum (pair_at (map K.means work.old) (spot half n stride start u i)) (pair_at (map K.means work.old) (spot half n stride start v i))) }
+    ensures sums { (u i : ℕ) → u ≤ n → i < stride → pair_at (map K.means work.new) (spot half n stride start u i) ≡ sum (pair_at (map K.means work.old) (spot half n stride start u i)) (pair_at (map K.means work.old) (spot half n stride start (added_row j u) i)) }
+    ensures kept { Kept start (start + (n + 1) * stride) (pair_at (map K.means work.new)) (pair_at (map K.means work.old)) }
 {
     for t in 0..n + 1 {
         let u = n - t;
@@ -88,9 +88,9 @@ fn sweep<K: Number>(work: &mut [K], start: usize, n: usize, stride: usize, half:
 fn halve_block<K: Number>(work: &mut [K], start: usize, n: usize, stride: usize, half: Half)
     requires fits { start + (n + 1) * stride ≤ length work.old }
     requires some { 0 < stride }
-    requires small { (u i : ℕ) → u ≤ n → i < stride → may_grow limit n (pair_at (map means work.old) (spot half n stride start u i)) ≡ true }
-    ensures halved { (u i : ℕ) → u ≤ n → i < stride → pair_at (map means work.new) (spot half n stride start u i) ≡ swept (λ r. pair_at (map means work.old) (spot half n stride start r i)) n u }
-    ensures kept { Kept start (start + (n + 1) * stride) (pair_at (map means work.new)) (pair_at (map means work.old)) }
+    requires small { (u i : ℕ) → u ≤ n → i < stride → may_grow K.limit n (pair_at (map K.means work.old) (spot half n stride start u i)) ≡ true }
+    ensures halved { (u i : ℕ) → u ≤ n → i < stride → pair_at (map K.means work.new) (spot half n stride start u i) ≡ swept (λ r. pair_at (map K.means work.old) (spot half n stride start r i)) n u }
+    ensures kept { Kept start (start + (n + 1) * stride) (pair_at (map K.means work.new)) (pair_at (map K.means work.old)) }
 {
     for j in 0..n {
         sweep(work, start, n, stride, half, j);
@@ -109,9 +109,9 @@ pub(crate) fn halve_patch<K: Number>(
     requires degree { n < 256 }
     requires fits { start + blocks * ((n + 1) * stride) ≤ length work.old }
     requires some { 0 < stride }
-    requires small { (p : ℕ) → p < blocks * ((n + 1) * stride) → may_grow limit n (pair_at (map means work.old) (start + p)) ≡ true }
-    ensures halved { (p : ℕ) → p < blocks * ((n + 1) * stride) → pair_at (map means work.new) (start + p) ≡ half_at half n stride (λ q. pair_at (map means work.old) (start + q)) p }
-    ensures kept { Kept start (start + blocks * ((n + 1) * stride)) (pair_at (map means work.new)) (pair_at (map means work.old)) }
+    requires small { (p : ℕ) → p < blocks * ((n + 1) * stride) → may_grow K.limit n (pair_at (map K.means work.old) (start + p)) ≡ true }
+    ensures halved { (p : ℕ) → p < blocks * ((n + 1) * stride) → pair_at (map K.means work.new) (start + p) ≡ half_at half n stride (λ q. pair_at (map K.means work.old) (start + q)) p }
+    ensures kept { Kept start (start + blocks * ((n + 1) * stride)) (pair_at (map K.means work.new)) (pair_at (map K.means work.old)) }
 {
     for b in 0..blocks {
         halve_block(work, start + b * ((n + 1) * stride), n, stride, half);

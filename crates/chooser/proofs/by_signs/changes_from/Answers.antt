@@ -6,8 +6,8 @@ use Rattle.chooser.proofs.Tallies.{tally_le, tally_yes, tally_no}
 use Rattle.chooser.proofs.by_signs.changes_from.Goals as goal
 use Rattle.chooser.proofs.by_signs.changes_from.Goals.{then-differ, else-differ}
 
-pub overflow-add-found : goal.overflow-add-found
-overflow-add-found c = record { fits = omega (arith, tally_le (differ_at c.args.signs.now c.args.stride) c.args.start c.loop-k.k) }
+pub overflow_add-found : goal.overflow_add-found
+overflow_add-found c = record { fits = omega (arith, tally_le (differ_at c.args.signs.now c.args.stride) c.args.start c.loop-k.k) }
 
 pub loop-k-preserved : goal.loop-k-preserved
 loop-k-preserved c =

@@ -13,13 +13,13 @@ small c =
     let axis = c.args.axis in
     le_trans (more_small axis.lower axis.upper c.args.exponent (common axis.degree) axis.degree c.args.k c.requires.place c.loop-m.m (omega arith)) c.requires.room
 
-pub overflow-add-sum : goal.overflow-add-sum
-overflow-add-sum c = sum_fits c.loop-m.invariant (answer_is c.summand-sum.type-inv c.summand-sum.ensures) (small c)
+pub overflow_add-sum : goal.overflow_add-sum
+overflow_add-sum c = sum_fits c.loop-m.invariant (answer_is c.summand-sum.type_inv c.summand-sum.ensures) (small c)
 
 pub loop-m-preserved : goal.loop-m-preserved
 loop-m-preserved c =
     let f = summand_of c.args.axis c.args.exponent c.args.k in
-    sum_is c.loop-m.invariant (answer_is c.summand-sum.type-inv c.summand-sum.ensures) (small c)
+    sum_is c.loop-m.invariant (answer_is c.summand-sum.type_inv c.summand-sum.ensures) (small c)
     ∙ sym (total_more c.loop-m.m f) ∙ ap (λ j. total integers j f) (sym (add-one c.loop-m.m))
 
 pub returns : goal.returns

@@ -11,13 +11,13 @@ use Rattle.patch.proofs.conversion.shifted.Goals as goal
 pub power-requires : goal.power-requires
 power-requires c =
     let axis = c.args.axis in
-    subst (λ x. nat_abs x ^ c.args.m ≤ word) (sym (answer_is c.width.type-inv c.width.ensures))
+    subst (λ x. nat_abs x ^ c.args.m ≤ word) (sym (answer_is c.width.type_inv c.width.ensures))
     (smaller_power (nat_abs (axis.upper -ℤ axis.lower)) (reach axis) c.args.m c.args.exponent (omega arith) c.requires.place c.requires.room)
 
 pub power-requires-2 : goal.power-requires-2
 power-requires-2 c =
     let axis = c.args.axis in
-    subst (λ x. nat_abs x ^ (c.args.exponent - c.args.m) ≤ word) (sym (widened_is c.args.axis.lower c.from.type-inv (search rules) c.from.ensures))
+    subst (λ x. nat_abs x ^ (c.args.exponent - c.args.m) ≤ word) (sym (widened_is c.args.axis.lower c.from.type_inv (search rules) c.from.ensures))
     (smaller_power (nat_abs axis.lower) (reach axis) (c.args.exponent - c.args.m) c.args.exponent (omega arith) (omega arith) c.requires.room)
 
 module _ (c : goal.After-power-2) where
@@ -31,10 +31,10 @@ module _ (c : goal.After-power-2) where
   m = c.args.m
 
   first_is : to_z w64 (of_z w64 c.power.result) ≡ pow (axis.upper -ℤ axis.lower) m
-  first_is = answer_is c.power.type-inv (c.power.ensures ∙ ap (λ x. pow x m) (answer_is c.width.type-inv c.width.ensures))
+  first_is = answer_is c.power.type_inv (c.power.ensures ∙ ap (λ x. pow x m) (answer_is c.width.type_inv c.width.ensures))
 
   second_is : to_z w64 (of_z w64 c.power-2.result) ≡ pow axis.lower (e - m)
-  second_is = answer_is c.power-2.type-inv (c.power-2.ensures ∙ ap (λ x. pow x (e - m)) (widened_is c.args.axis.lower c.from.type-inv (search rules) c.from.ensures))
+  second_is = answer_is c.power-2.type_inv (c.power-2.ensures ∙ ap (λ x. pow x (e - m)) (widened_is c.args.axis.lower c.from.type_inv (search rules) c.from.ensures))
 
   powers_fit : nat_abs (pow (axis.upper -ℤ axis.lower) m *ℤ pow axis.lower (e - m)) ≤ word
   powers_fit = le_trans (powers_small axis.lower axis.upper e m c.requires.place) c.requires.room
@@ -42,11 +42,11 @@ module _ (c : goal.After-power-2) where
   part_fits : nat_abs (shifted_of axis e m) ≤ word
   part_fits = le_trans (part_small axis.lower axis.upper e m c.requires.place) c.requires.room
 
-pub overflow-mul-result : goal.overflow-mul-result
-overflow-mul-result c = product_fits (first_is c) (second_is c) (powers_fit c)
+pub overflow_mul-result : goal.overflow_mul-result
+overflow_mul-result c = product_fits (first_is c) (second_is c) (powers_fit c)
 
-pub overflow-mul-result-2 : goal.overflow-mul-result-2
-overflow-mul-result-2 c = product_fits (answer_is c.binomial.type-inv c.binomial.ensures) (product_is (first_is c) (second_is c) (powers_fit c)) (part_fits c)
+pub overflow_mul-result-2 : goal.overflow_mul-result-2
+overflow_mul-result-2 c = product_fits (answer_is c.binomial.type_inv c.binomial.ensures) (product_is (first_is c) (second_is c) (powers_fit c)) (part_fits c)
 
 pub returns : goal.returns
-returns c = product_is (answer_is c.binomial.type-inv c.binomial.ensures) (product_is (first_is c) (second_is c) (powers_fit c)) (part_fits c)
+returns c = product_is (answer_is c.binomial.type_inv c.binomial.ensures) (product_is (first_is c) (second_is c) (powers_fit c)) (part_fits c)

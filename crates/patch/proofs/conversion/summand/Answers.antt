@@ -11,7 +11,7 @@ use Rattle.patch.proofs.conversion.summand.Goals as goal
 weight_is : (c : goal.After-weight) → to_z w64 (of_z w64 c.weight.result) ≡ pos (share (common c.args.axis.degree) c.args.axis.degree c.args.k c.args.m)
 weight_is c =
     let asked = c.requires.asked in
-    answer_is c.weight.type-inv (c.weight.ensures
+    answer_is c.weight.type_inv (c.weight.ensures
     ∙ ap pos (weight_is_share c.args.axis.degree c.args.k c.args.m asked.some_degree asked.degree asked.place (le_trans c.requires.place asked.exponent)))
 
 small : (c : goal.After-weight) → nat_abs (summand_of c.args.axis c.args.exponent c.args.k c.args.m) ≤ word
@@ -20,8 +20,8 @@ small c =
     let asked = c.requires.asked in
     le_trans (summand_small axis.lower axis.upper c.args.exponent (common axis.degree) axis.degree c.args.k asked.place c.args.m c.requires.place) asked.room
 
-pub overflow-mul-result : goal.overflow-mul-result
-overflow-mul-result c = product_fits (answer_is c.shifted.type-inv c.shifted.ensures) (weight_is c) (small c)
+pub overflow_mul-result : goal.overflow_mul-result
+overflow_mul-result c = product_fits (answer_is c.shifted.type_inv c.shifted.ensures) (weight_is c) (small c)
 
 pub returns : goal.returns
-returns c = product_is (answer_is c.shifted.type-inv c.shifted.ensures) (weight_is c) (small c)
+returns c = product_is (answer_is c.shifted.type_inv c.shifted.ensures) (weight_is c) (small c)

@@ -3,14 +3,14 @@ use Rattle.algebra.specs.Form.{end_index}
 use Rattle.patch.proofs.BoxCorners.{place_more, place_all, place_small, place_fits, corner_whole}
 use Rattle.patch.proofs.corners.place.Goals as goal
 
-pub overflow-mul-place : goal.overflow-mul-place
-overflow-mul-place c =
+pub overflow_mul-place : goal.overflow_mul-place
+overflow_mul-place c =
     let n : get_or c.args.degrees.now c.loop-j.j 0 < 256 = search rules in
     let s = place_small c.loop-j.place (get_or c.args.degrees.now c.loop-j.j 0) 0 c.loop-j.j c.loop-j.invariant.1 n (omega arith) in
     record { fits = omega (arith, place_fits _ _ s (omega arith)) }
 
-pub overflow-add-place-in-loop-j : goal.overflow-add-place-in-loop-j
-overflow-add-place-in-loop-j c =
+pub overflow_add-place-in-loop-j : goal.overflow_add-place-in-loop-j
+overflow_add-place-in-loop-j c =
     let n : get_or c.args.degrees.now c.loop-j.j 0 < 256 = search rules in
     let s = place_small c.loop-j.place (get_or c.args.degrees.now c.loop-j.j 0) c.index.result c.loop-j.j c.loop-j.invariant.1 n c.index.ensures.1 in
     record { fits = omega (arith, place_fits _ _ s (omega arith)) }

@@ -7,19 +7,19 @@ use Rattle.patch.specs.Point.{sum_over}
 use Rattle.patch.proofs.Summing.{summable, turned_sum}
 use Rattle.patch.proofs.first_patch.number_at.Goals as goal
 
-pub sum-at-requires : goal.sum-at-requires
-sum-at-requires c =
+pub sum_at-requires : goal.sum_at-requires
+sum_at-requires c =
     let t = c.args.ticket.now in
-    let axes = sym c.as-slice-axes.ensures.value in
-    let terms = sym c.as-slice-terms.ensures.value in
-    subst (λ xs. Summable xs c.as-slice-terms.result.now c.args.size c.args.place) axes
+    let axes = sym c.as_slice-axes.ensures.value in
+    let terms = sym c.as_slice-terms.ensures.value in
+    subst (λ xs. Summable xs c.as_slice-terms.result.now c.args.size c.args.place) axes
     (subst (λ ts. Summable (content t.ticket).axes ts c.args.size c.args.place) terms
     (summable (content t.ticket) c.args.size c.args.place t.ticket.formed t.small c.requires.whole c.requires.inside))
 
 pub returns : goal.returns
 returns c =
     let t = c.args.ticket.now.ticket in
-    let axes = c.as-slice-axes.ensures.value in
-    let terms = c.as-slice-terms.ensures.value in
+    let axes = c.as_slice-axes.ensures.value in
+    let terms = c.as_slice-terms.ensures.value in
     c.turned.ensures ∙ ap (turned_pair t.relation) (c.sum_at.ensures.is ∙ (λ i. sum_over (λ t. of_powers (axes i) t.exponents (index_of (degrees_of (axes i)) c.args.place)) (terms i)))
     ∙ turned_sum (λ es. of_powers (content t).axes es (index_of (degrees_of (content t).axes) c.args.place)) t.relation (content t).terms

@@ -12,10 +12,10 @@ use Rattle.patch.proofs.Tests.{not_both}
 use Rattle.patch.proofs.Writing.{Filled, none_filled, filled_more}
 use Rattle.patch.proofs.first_patch.write_first_patch.Goals as goal
 
-pub returns-then-not-all-carried : goal.returns-then-not-all-carried
-returns-then-not-all-carried g c =
+pub returns-then-not-all_carried : goal.returns-then-not-all_carried
+returns-then-not-all_carried g c =
     let t = content c.args.ticket.now.ticket in
-    let carried : false ≡ all_carried g.K.Number.drifts t.terms = sym c.if-not-all-carried.true ∙ c.all_carried.ensures ∙ (λ i. all_carried (c.carries_drift.ensures i) (c.as_slice.ensures.value i)) in
+    let carried : false ≡ all_carried g.K.Number.drifts t.terms = sym c.if-not-all_carried.true ∙ c.all_carried.ensures ∙ (λ i. all_carried (c.carries_drift.ensures i) (c.as_slice.ensures.value i)) in
     record {
       answer = ap (λ b. b && leb (numbers (degrees_of t.axes)) (length c.args.work.now)) carried;
       begun = not_both;
@@ -31,7 +31,7 @@ returns-then-work-size g c =
     let room = length c.args.work.now in
     let size = ap (λ s. s.patch) c.sizes-size.ensures in
     let short = c.if-work-size.true in
-    let carried : true ≡ all_carried g.K.Number.drifts t.terms = sym c.if-not-all-carried.false ∙ c.all_carried.ensures ∙ (λ i. all_carried (c.carries_drift.ensures i) (c.as_slice.ensures.value i)) in
+    let carried : true ≡ all_carried g.K.Number.drifts t.terms = sym c.if-not-all_carried.false ∙ c.all_carried.ensures ∙ (λ i. all_carried (c.carries_drift.ensures i) (c.as_slice.ensures.value i)) in
     record {
       answer = sym (lt-leb (numbers (degrees_of t.axes)) room (omega arith)) ∙ ap (λ b. b && leb (numbers (degrees_of t.axes)) room) carried;
       begun = not_both;
@@ -41,14 +41,14 @@ returns-then-work-size g c =
       bounded = first_patch_is_bounded;
     }
 
-pub number-at-requires : goal.number-at-requires
-number-at-requires g c = record { whole = ap (λ s. s.patch) c.sizes-size.ensures; inside = c.loop-place-test.true }
+pub number_at-requires : goal.number_at-requires
+number_at-requires g c = record { whole = ap (λ s. s.patch) c.sizes-size.ensures; inside = c.loop-place-test.true }
 
 pub made-requires : goal.made-requires
 made-requires g c =
     let t = c.args.ticket.now in
     number_made g.K.Number.drifts (content t.ticket) c.sizes-size.result.patch c.loop-place.place (pair_of_parts c.number_at.result) t.ticket.formed t.small (ap (λ s. s.patch) c.sizes-size.ensures) c.loop-place-test.true
-    (sym (c.all_carried.ensures ∙ (λ i. all_carried (c.carries_drift.ensures i) (c.as_slice.ensures.value i))) ∙ c.if-not-all-carried.false)
+    (sym (c.all_carried.ensures ∙ (λ i. all_carried (c.carries_drift.ensures i) (c.as_slice.ensures.value i))) ∙ c.if-not-all_carried.false)
     c.number_at.ensures
 
 pub loop-place-init : goal.loop-place-init
@@ -66,7 +66,7 @@ returns g c =
     let size = ap (λ s. s.patch) c.sizes-size.ensures in
     let all : c.loop-place.place ≡ numbers (degrees_of t.axes) = omega arith in
     let fits : numbers (degrees_of t.axes) ≤ length c.args.work.now = omega arith in
-    let carried : true ≡ all_carried g.K.Number.drifts t.terms = sym c.if-not-all-carried.false ∙ c.all_carried.ensures ∙ (λ i. all_carried (c.carries_drift.ensures i) (c.as_slice.ensures.value i)) in
+    let carried : true ≡ all_carried g.K.Number.drifts t.terms = sym c.if-not-all_carried.false ∙ c.all_carried.ensures ∙ (λ i. all_carried (c.carries_drift.ensures i) (c.as_slice.ensures.value i)) in
     let filled = subst (Filled g.K.Number.means (number_at (turned t)) c.args.work.now c.loop-place.work) all c.loop-place.invariant in
     record {
       answer = sym (le-leb (numbers (degrees_of t.axes)) (length c.args.work.now) fits) ∙ ap (λ b. b && leb (numbers (degrees_of t.axes)) (length c.args.work.now)) carried;

@@ -14,34 +14,34 @@ use Rattle.patch.proofs.halving.halve.Goals as goal
 not_both : {P : Type 0} → false ≡ true → P
 not_both e = absurd (let z : ◌≡◌ {A = ℕ} 0 1 = cc in omega arith)
 
-pub returns-in-default : goal.returns-in-default
-returns-in-default g c =
+pub returns-in_default : goal.returns-in_default
+returns-in_default g c =
     let m = g.K.Number in
     let work = c.args.work.now in
     let len : length work < 2 ^ 64 = search rules in
     record {
-      answer = no_shape m.limit c.args.degrees.now c.args.axis c.args.start (map m.means work) (omega (arith, length-map work m.means)) (of_no_shape c.args.degrees.now c.args.axis (sym c.in-default.is ∙ c.shape.ensures));
+      answer = no_shape m.limit c.args.degrees.now c.args.axis c.args.start (map m.means work) (omega (arith, length-map work m.means)) (of_no_shape c.args.degrees.now c.args.axis (sym c.in_default.is ∙ c.shape.ensures));
       halved = not_both;
       refused = λ _. search rules;
       represents = half_represents;
       covers = halves_cover;
     }
 
-pub returns-then-not-has-room : goal.returns-then-not-has-room
-returns-then-not-has-room g c =
+pub returns-then-not-has_room : goal.returns-then-not-has_room
+returns-then-not-has_room g c =
     let m = g.K.Number in
     let ns = c.args.degrees.now in
     let s = of_shape ns c.args.axis c.in-Some.shape (sym c.in-Some.is ∙ c.shape.ensures) in
     record {
-      answer = no_room m.limit ns c.args.axis c.args.start (map m.means c.args.work.now) s.0 (room_is m.means ns c.args.axis c.args.start c.args.work.now c.in-Some.shape s.2 c.has_room.result c.has_room.ensures ∙ c.if-not-has-room.true);
+      answer = no_room m.limit ns c.args.axis c.args.start (map m.means c.args.work.now) s.0 (room_is m.means ns c.args.axis c.args.start c.args.work.now c.in-Some.shape s.2 c.has_room.result c.has_room.ensures ∙ c.if-not-has_room.true);
       halved = not_both;
       refused = λ _. search rules;
       represents = half_represents;
       covers = halves_cover;
     }
 
-pub returns-then-not-all-grow : goal.returns-then-not-all-grow
-returns-then-not-all-grow g c =
+pub returns-then-not-all_grow : goal.returns-then-not-all_grow
+returns-then-not-all_grow g c =
     let m = g.K.Number in
     let ns = c.args.degrees.now in
     let j = c.args.axis in
@@ -50,7 +50,7 @@ returns-then-not-all-grow g c =
     let s = of_shape ns j c.in-Some.shape (sym c.in-Some.is ∙ c.shape.ensures) in
     let grown = growth_is m.means ns j start work c.in-Some.shape s.2 m.limit c.all_grow.result c.all_grow.ensures in
     record {
-      answer = sym (grown ∙ c.if-not-all-grow.true) ∙ by_growth m.limit ns j start (map m.means work) s.0 (room_is m.means ns j start work c.in-Some.shape s.2 c.has_room.result c.has_room.ensures ∙ c.if-not-has-room.false);
+      answer = sym (grown ∙ c.if-not-all_grow.true) ∙ by_growth m.limit ns j start (map m.means work) s.0 (room_is m.means ns j start work c.in-Some.shape s.2 c.has_room.result c.has_room.ensures ∙ c.if-not-has_room.false);
       halved = not_both;
       refused = λ _. search rules;
       represents = half_represents;
@@ -66,7 +66,7 @@ split-requires g c =
     let work = c.args.work.now in
     let shape = c.in-Some.shape in
     let s = of_shape ns j shape (sym c.in-Some.is ∙ c.shape.ensures) in
-    let fits = leb-true (start + (shape.size + shape.size)) (length work) (sym c.has_room.ensures ∙ c.if-not-has-room.false) in
+    let fits = leb-true (start + (shape.size + shape.size)) (length work) (sym c.has_room.ensures ∙ c.if-not-has_room.false) in
     let len = length-map work m.means in
     let size = ap (λ s. s.size) s.2 in
     record {
@@ -75,7 +75,7 @@ split-requires g c =
       some = omega (arith, stride_positive ns j s.0, ap (λ s. s.stride) s.2);
       small = λ p l.
           subst (λ n. Grows m.limit n (pair_at (map m.means work) (start + p))) (sym (ap (λ s. s.degree) s.2))
-          (part_grows m.limit (get_or ns j 0) start (numbers ns) (map m.means work) (omega arith) (growth_is m.means ns j start work shape s.2 m.limit c.all_grow.result c.all_grow.ensures ∙ c.if-not-all-grow.false) p (omega arith));
+          (part_grows m.limit (get_or ns j 0) start (numbers ns) (map m.means work) (omega arith) (growth_is m.means ns j start work shape s.2 m.limit c.all_grow.result c.all_grow.ensures ∙ c.if-not-all_grow.false) p (omega arith));
     }
 
 pub returns : goal.returns
@@ -87,13 +87,13 @@ returns g c =
     let work = c.args.work.now in
     let shape = c.in-Some.shape in
     let s = of_shape ns j shape (sym c.in-Some.is ∙ c.shape.ensures) in
-    let fits = leb-true (start + (shape.size + shape.size)) (length work) (sym c.has_room.ensures ∙ c.if-not-has-room.false) in
+    let fits = leb-true (start + (shape.size + shape.size)) (length work) (sym c.has_room.ensures ∙ c.if-not-has_room.false) in
     let old = length-map work m.means in
     let new = length-map c.split.new.work m.means in
     let size = ap (λ s. s.size) s.2 in
     let grown = growth_is m.means ns j start work shape s.2 m.limit c.all_grow.result c.all_grow.ensures in
     record {
-      answer = sym (grown ∙ c.if-not-all-grow.false) ∙ by_growth m.limit ns j start (map m.means work) s.0 (room_is m.means ns j start work shape s.2 c.has_room.result c.has_room.ensures ∙ c.if-not-has-room.false);
+      answer = sym (grown ∙ c.if-not-all_grow.false) ∙ by_growth m.limit ns j start (map m.means work) s.0 (room_is m.means ns j start work shape s.2 c.has_room.result c.has_room.ensures ∙ c.if-not-has_room.false);
       halved = λ _.
           halved_is c.args.first ns j start (map m.means work) (map m.means c.split.new.work) s.0 (omega arith) (omega arith)
           (subst (λ s. Split c.args.first s.degree s.stride s.size start (pair_at (map m.means work)) (pair_at (map m.means c.split.new.work))) s.2 c.split.ensures);

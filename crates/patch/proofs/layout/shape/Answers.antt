@@ -3,29 +3,29 @@ use Rattle.patch.proofs.Counting.{blocks_below, stride_below, front_is, back_is,
 use Rattle.patch.proofs.layout.shape.Goals as goal
 
 -- the parts of a patch whose size a word holds are held too
-pub returns-in-err-blocks : goal.returns-in-err-blocks
-returns-in-err-blocks c =
+pub returns-in_err-blocks : goal.returns-in_err-blocks
+returns-in_err-blocks c =
     let ns = c.args.degrees.now in
     let j = c.args.axis in
-    let size = of_count ns c.in-ok-size.size c.in-ok-size.ensures in
-    let none = of_no_count (take (j - 0) ns) c.in-err-blocks.ensures in
+    let size = of_count ns c.in_ok-size.size c.in_ok-size.ensures in
+    let none = of_no_count (take (j - 0) ns) c.in_err-blocks.ensures in
     absurd (let z : ⊥ = omega (arith, size.0, none, front_is ns j, blocks_below ns j c.if-axis-degrees.false) in z)
 
-pub returns-in-err-stride : goal.returns-in-err-stride
-returns-in-err-stride c =
+pub returns-in_err-stride : goal.returns-in_err-stride
+returns-in_err-stride c =
     let ns = c.args.degrees.now in
     let j = c.args.axis in
-    let size = of_count ns c.in-ok-size.size c.in-ok-size.ensures in
-    let none = of_no_count (take (length ns - (j + 1)) (drop (j + 1) ns)) c.in-err-stride.ensures in
+    let size = of_count ns c.in_ok-size.size c.in_ok-size.ensures in
+    let none = of_no_count (take (length ns - (j + 1)) (drop (j + 1) ns)) c.in_err-stride.ensures in
     absurd (let z : ⊥ = omega (arith, size.0, none, back_is ns j c.if-axis-degrees.false, stride_below ns j c.if-axis-degrees.false) in z)
 
 pub returns : goal.returns
 returns c =
     let ns = c.args.degrees.now in
     let j = c.args.axis in
-    let size = of_count ns c.in-ok-size.size c.in-ok-size.ensures in
-    let blocks = of_count (take (j - 0) ns) c.in-ok-blocks.blocks c.in-ok-blocks.ensures in
-    let stride = of_count (take (length ns - (j + 1)) (drop (j + 1) ns)) c.in-ok-stride.stride c.in-ok-stride.ensures in
+    let size = of_count ns c.in_ok-size.size c.in_ok-size.ensures in
+    let blocks = of_count (take (j - 0) ns) c.in_ok-blocks.blocks c.in_ok-blocks.ensures in
+    let stride = of_count (take (length ns - (j + 1)) (drop (j + 1) ns)) c.in_ok-stride.stride c.in_ok-stride.ensures in
     let b = blocks.1 ∙ front_is ns j in
     let s = stride.1 ∙ back_is ns j c.if-axis-degrees.false in
     let n = size.1 in

@@ -9,26 +9,26 @@ use Rattle.patch.proofs.sweep.halve_patch.Goals as goal
 pub loop-b-init : goal.loop-b-init
 loop-b-init g c = done_none c.args.half c.args.n c.args.stride c.args.start _
 
-pub overflow-mul-n : goal.overflow-mul-n
-overflow-mul-n g c =
+pub overflow_mul-n : goal.overflow_mul-n
+overflow_mul-n g c =
     let h : length c.args.work.now < 2 ^ 64 = search rules in
     let r = row_end ((c.args.n + 1) * c.args.stride) c.loop-b.b c.args.blocks c.loop-b-test.true in
     record { fits = omega arith }
 
-pub overflow-mul-b : goal.overflow-mul-b
-overflow-mul-b g c =
+pub overflow_mul-b : goal.overflow_mul-b
+overflow_mul-b g c =
     let h : length c.args.work.now < 2 ^ 64 = search rules in
     let r = row_end ((c.args.n + 1) * c.args.stride) c.loop-b.b c.args.blocks c.loop-b-test.true in
     record { fits = omega arith }
 
-pub overflow-add-start : goal.overflow-add-start
-overflow-add-start g c =
+pub overflow_add-start : goal.overflow_add-start
+overflow_add-start g c =
     let h : length c.args.work.now < 2 ^ 64 = search rules in
     let r = row_end ((c.args.n + 1) * c.args.stride) c.loop-b.b c.args.blocks c.loop-b-test.true in
     record { fits = omega arith }
 
-pub halve-block-requires : goal.halve-block-requires
-halve-block-requires g c =
+pub halve_block-requires : goal.halve_block-requires
+halve_block-requires g c =
     let m = g.K.Number in
     let s = c.args.stride in
     let size = (c.args.n + 1) * s in

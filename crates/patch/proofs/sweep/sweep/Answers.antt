@@ -11,34 +11,34 @@ loop-t-init g c = staged_none c.args.half c.args.n c.args.stride c.args.start c.
 pub row-requires-in-loop-t : goal.row-requires-in-loop-t
 row-requires-in-loop-t g c = omega (arith, c.before-v.ensures, added_row_below c.args.j (c.args.n - c.loop-t.t) c.args.n (omega arith))
 
-pub overflow-mul-to : goal.overflow-mul-to
-overflow-mul-to g c =
+pub overflow_mul-to : goal.overflow_mul-to
+overflow_mul-to g c =
     let h : length c.args.work.now < 2 ^ 64 = search rules in
     let f = row_fits c.args.half c.args.n c.args.stride c.args.start c.row.result (c.args.n - c.loop-t.t) (length c.args.work.now) c.row.ensures.0 (omega arith) c.requires.fits in
     record { fits = omega arith }
 
-pub overflow-add-to : goal.overflow-add-to
-overflow-add-to g c =
+pub overflow_add-to : goal.overflow_add-to
+overflow_add-to g c =
     let h : length c.args.work.now < 2 ^ 64 = search rules in
     let f = row_fits c.args.half c.args.n c.args.stride c.args.start c.row.result (c.args.n - c.loop-t.t) (length c.args.work.now) c.row.ensures.0 (omega arith) c.requires.fits in
     record { fits = omega arith }
 
-pub overflow-mul-from : goal.overflow-mul-from
-overflow-mul-from g c =
+pub overflow_mul-from : goal.overflow_mul-from
+overflow_mul-from g c =
     let h : length c.args.work.now < 2 ^ 64 = search rules in
     let v = added_row_below c.args.j (c.args.n - c.loop-t.t) c.args.n (omega arith) in
     let f = row_fits c.args.half c.args.n c.args.stride c.args.start c.row-in-loop-t.result c.before-v.result (length c.args.work.now) c.row-in-loop-t.ensures.0 (omega (arith, c.before-v.ensures)) c.requires.fits in
     record { fits = omega arith }
 
-pub overflow-add-from : goal.overflow-add-from
-overflow-add-from g c =
+pub overflow_add-from : goal.overflow_add-from
+overflow_add-from g c =
     let h : length c.args.work.now < 2 ^ 64 = search rules in
     let v = added_row_below c.args.j (c.args.n - c.loop-t.t) c.args.n (omega arith) in
     let f = row_fits c.args.half c.args.n c.args.stride c.args.start c.row-in-loop-t.result c.before-v.result (length c.args.work.now) c.row-in-loop-t.ensures.0 (omega (arith, c.before-v.ensures)) c.requires.fits in
     record { fits = omega arith }
 
-pub add-row-requires : goal.add-row-requires
-add-row-requires g c =
+pub add_row-requires : goal.add_row-requires
+add_row-requires g c =
     let m = g.K.Number in
     let h = c.args.half in
     let n = c.args.n in

@@ -11,7 +11,7 @@ loop-pair-init c =
 pub loop-pair-preserved : goal.loop-pair-preserved
 loop-pair-preserved c =
     let cut = c.in-Some.ensures.steps.1.0 in
-    let told = c.in-ok-byte.ensures in
-    let pushed = c.in-ok-push.ensures.items in
+    let told = c.in_ok-byte.ensures in
+    let pushed = c.in_ok-push.ensures.items in
     one_more c.args.digits.now (vec_items c.loop-pair.bytes) (vec_items c.push.new.self) (chunks_rest c.loop-pair.pair-iterator)
-    c.in-Some.pair.now (chunks_rest c.next.new.self) c.in-ok-byte.field-0 c.loop-pair.invariant cut told pushed
+    c.in-Some.pair.now (chunks_rest c.next.new.self) c.in_ok-byte.field-0 c.loop-pair.invariant cut told pushed

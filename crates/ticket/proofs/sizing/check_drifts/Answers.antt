@@ -5,16 +5,16 @@ use Rattle.ticket.proofs.sizing.check_drifts.Goals as goal
 pub loop-k-init : goal.loop-k-init
 loop-k-init c = from_start _ _ _ _
 
-pub returns-in-err-check : goal.returns-in-err-check
-returns-in-err-check c =
-    exit c.from-residual.ensures.1
+pub returns-in_err-check : goal.returns-in_err-check
+returns-in_err-check c =
+    exit c.from_residual.ensures.1
     (from_stops _ _ _ c.args.terms.now _ c.loop-k.k (search rules) c.loop-k.invariant
-    (told _ c.is_carried.ensures c.in-err-check.ensures))
+    (told _ c.is_carried.ensures c.in_err-check.ensures))
 
 pub loop-k-preserved : goal.loop-k-preserved
 loop-k-preserved c =
     from_goes _ _ _ c.args.terms.now _ c.loop-k.k (search rules) c.loop-k.invariant
-    (told _ c.is_carried.ensures c.in-ok-check.ensures)
+    (told _ c.is_carried.ensures c.in_ok-check.ensures)
 
 pub returns : goal.returns
 returns c = from_end _ _ _ c.args.terms.now c.loop-k.k (search rules) ∙ sym c.loop-k.invariant

@@ -11,11 +11,11 @@ loop-i-init c =
 pub loop-i-preserved : goal.loop-i-preserved
 loop-i-preserved c =
     let b = c.args.base in
-    let e : c.args.exponent - c.loop-i.-i ≡ suc (c.args.exponent - (c.loop-i.-i + 1)) = omega arith in
-    let one_more : b ^ (c.args.exponent - c.loop-i.-i) ≡ b * b ^ (c.args.exponent - (c.loop-i.-i + 1)) = ap (λ k. b ^ k) e ∙ pow-succ' b _ in
+    let e : c.args.exponent - c.loop-i._i ≡ suc (c.args.exponent - (c.loop-i._i + 1)) = omega arith in
+    let one_more : b ^ (c.args.exponent - c.loop-i._i) ≡ b * b ^ (c.args.exponent - (c.loop-i._i + 1)) = ap (λ k. b ^ k) e ∙ pow-succ' b _ in
     product_more c.loop-i.product b _ _ c.times-product.ensures (subst (λ x. Product c.loop-i.product x (b ^ c.args.exponent)) one_more c.loop-i.invariant)
 
 pub returns : goal.returns
 returns c =
-    let e : c.args.exponent - c.loop-i.-i ≡ 0 = omega arith in
+    let e : c.args.exponent - c.loop-i._i ≡ 0 = omega arith in
     product_end c.loop-i.product _ (subst (λ x. Product c.loop-i.product x (c.args.base ^ c.args.exponent)) (ap (λ k. c.args.base ^ k) e ∙ pow-zero c.args.base) c.loop-i.invariant)

@@ -22,18 +22,18 @@ returns-in-Some g c =
       same = refl;
     }
 
-pub returns-then-not-write-first-patch : goal.returns-then-not-write-first-patch
-returns-then-not-write-first-patch g c =
+pub returns-then-not-write_first_patch : goal.returns-then-not-write_first_patch
+returns-then-not-write_first_patch g c =
     let k = c.args.self.now in
     let work = map g.K.Number.means c.args.work.now in
     let never : all_carried g.K.Number.drifts (ticket_of k).terms ≡ true → ⊥ = λ carried.
     let t : c.write_first_patch.result ≡ true = c.write_first_patch.ensures.answer ∙ may_begin_anew (ticket_of k) (length c.args.work.now) c.args.depth (model k work) (c.in-None.ensures work) g.K.Number.drifts carried in
-    let u : c.write_first_patch.result ≡ false = c.if-not-write-first-patch.true in
+    let u : c.write_first_patch.result ≡ false = c.if-not-write_first_patch.true in
     void (cc (t, u)) in
     record {
       answer = λ carried μ. absurd (never carried);
       next = λ carried μ. absurd (never carried);
-      refused = (refl, c.write_first_patch.ensures.refused c.if-not-write-first-patch.true);
+      refused = (refl, c.write_first_patch.ensures.refused c.if-not-write_first_patch.true);
       same = refl;
     }
 
@@ -49,7 +49,7 @@ returns g c =
     let f = g.K.Number.means in
     let work = map f c.args.work.now in
     let granted = c.in-None.ensures work in
-    let wrote : c.write_first_patch.result ≡ true = c.if-not-write-first-patch.false in
+    let wrote : c.write_first_patch.result ≡ true = c.if-not-write_first_patch.false in
     let len = length c.args.work.now in
     record {
       answer = λ _ μ. deepened_reply (ticket_of k) len c.args.depth (model k work) granted g.K.Number.limit μ;

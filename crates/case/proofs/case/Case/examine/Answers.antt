@@ -3,29 +3,29 @@ use Rattle.case.specs.Model.{newest_start}
 use Rattle.case.proofs.Examined.{patch_lent, size_small, start_is_small, newest_ends_within, clear_steps, broken_steps, deep_steps, axis_inside, still_shallow, undecided_steps}
 use Rattle.case.proofs.case.Case.examine.Goals as goal
 
-pub overflow-mul-start : goal.overflow-mul-start
-overflow-mul-start g c = let h : newest_start c.args.self.now ≤ 3072 = start_is_small c.args.self.now c.requires.waits in search rules
+pub overflow_mul-start : goal.overflow_mul-start
+overflow_mul-start g c = let h : newest_start c.args.self.now ≤ 3072 = start_is_small c.args.self.now c.requires.waits in search rules
 
-pub overflow-add-end : goal.overflow-add-end
-overflow-add-end g c =
+pub overflow_add-end : goal.overflow_add-end
+overflow_add-end g c =
     let k = c.args.self.now in
     let h : newest_start k + k.size ≤ 3200 = omega (arith, start_is_small k c.requires.waits, size_small k c.requires.waits) in
     search rules
 
-pub offset-bounds-work-start : goal.offset-bounds-work-start
-offset-bounds-work-start g c =
+pub offset_bounds-work-start : goal.offset_bounds-work-start
+offset_bounds-work-start g c =
     let k = c.args.self.now in
     let r : (k.waiting.len - 1) * k.size + k.size ≤ length c.args.work.now = omega (arith, newest_ends_within k c.requires.waits (length c.args.work.now) c.requires.room) in
     search rules
 
-pub slice-bounds-judge-end : goal.slice-bounds-judge-end
-slice-bounds-judge-end g c =
+pub slice_bounds-judge-end : goal.slice_bounds-judge-end
+slice_bounds-judge-end g c =
     let k = c.args.self.now in
     let r : (k.waiting.len - 1) * k.size + k.size ≤ length c.args.work.now = omega (arith, newest_ends_within k c.requires.waits (length c.args.work.now) c.requires.room) in
     search rules
 
-pub halve-newest-requires : goal.halve-newest-requires
-halve-newest-requires g c =
+pub halve_newest-requires : goal.halve_newest-requires
+halve_newest-requires g c =
     let k = c.args.self.now in
     let f = g.K.Number.means in
     let work = c.args.work.now in

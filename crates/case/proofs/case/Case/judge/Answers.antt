@@ -13,21 +13,21 @@ use Rattle.case.proofs.Lent.{degrees_lent, halvings_lent, level_lent, lowest_len
 use Rattle.case.proofs.Found.{clear_is_found, violation_is_found, depth_is_found, choice_is_found}
 use Rattle.case.proofs.case.Case.judge.Goals as goal
 
-pub returns-then-all-satisfy : goal.returns-then-all-satisfy
-returns-then-all-satisfy g c =
+pub returns-then-all_satisfy : goal.returns-then-all_satisfy
+returns-then-all_satisfy g c =
     let k = c.args.self.now in
     let b = map g.K.Number.means c.args.patch.now in
-    let e : all_satisfy (turned (ticket_of k)).relation b ≡ true = sym (ap (λ r. all_satisfy r b) c.turned_relation.ensures) ∙ sym c.all_satisfy.ensures.answer ∙ c.if-all-satisfy.true in
+    let e : all_satisfy (turned (ticket_of k)).relation b ≡ true = sym (ap (λ r. all_satisfy r b) c.turned_relation.ensures) ∙ sym c.all_satisfy.ensures.answer ∙ c.if-all_satisfy.true in
     record { answer = clear_is_found (ticket_of k) (g.C.Chooser.meaning c.args.chooser.now) k.depth (newest_with k b) e; same = refl }
 
 pub top-newest-requires : goal.top-newest-requires
 top-newest-requires g c = record { some = c.requires.waits; room = table_holds c.args.self.now c.requires.waits }
 
-pub box-ends-ends-requires : goal.box-ends-ends-requires
-box-ends-ends-requires g c =
+pub box_ends-ends-requires : goal.box_ends-ends-requires
+box_ends-ends-requires g c =
     let k = c.args.self.now in
     let w = c.requires.waits in
-    let n : length c.as-slice-axes.result.now ≡ axes k = ap length c.as-slice-axes.ensures.value in
+    let n : length c.as_slice-axes.result.now ≡ axes k = ap length c.as_slice-axes.ensures.value in
     let h : length c.top-newest.result.halvings ≡ 4 = ap (λ r. length r.halvings) c.top-newest.ensures ∙ four_halvings k w in
     let p : length c.top-newest.result.places ≡ 4 = ap (λ r. length r.places) c.top-newest.ensures ∙ four_places k w in
     record {
@@ -39,17 +39,17 @@ pub returns-in-Some : goal.returns-in-Some
 returns-in-Some g c =
     let k = c.args.self.now in
     let b = map g.K.Number.means c.args.patch.now in
-    let u : all_satisfy (turned (ticket_of k)).relation b ≡ false = sym (ap (λ r. all_satisfy r b) c.turned_relation.ensures) ∙ sym c.all_satisfy.ensures.answer ∙ c.if-all-satisfy.false in
-    let l = lowest_lent k c.as-slice-axes.result.now c.as-slice-axes.ensures.value c.requires.waits c.top-newest.result c.top-newest.ensures c.turned_relation.result c.box-ends-ends.result b c.broken_corner.result c.turned_relation.ensures c.box-ends-ends.ensures c.broken_corner.ensures.answer in
+    let u : all_satisfy (turned (ticket_of k)).relation b ≡ false = sym (ap (λ r. all_satisfy r b) c.turned_relation.ensures) ∙ sym c.all_satisfy.ensures.answer ∙ c.if-all_satisfy.false in
+    let l = lowest_lent k c.as_slice-axes.result.now c.as_slice-axes.ensures.value c.requires.waits c.top-newest.result c.top-newest.ensures c.turned_relation.result c.box_ends-ends.result b c.broken_corner.result c.turned_relation.ensures c.box_ends-ends.ensures c.broken_corner.ensures.answer in
     record { answer = violation_is_found (ticket_of k) (g.C.Chooser.meaning c.args.chooser.now) k.depth (newest_with k b) (few_axes k) u c.broken_corner.result l c.in-Some.corner c.in-Some.is; same = refl }
 
 pub returns-then-level-self : goal.returns-then-level-self
 returns-then-level-self g c =
     let k = c.args.self.now in
     let b = map g.K.Number.means c.args.patch.now in
-    let u : all_satisfy (turned (ticket_of k)).relation b ≡ false = sym (ap (λ r. all_satisfy r b) c.turned_relation.ensures) ∙ sym c.all_satisfy.ensures.answer ∙ c.if-all-satisfy.false in
-    let l = lowest_lent k c.as-slice-axes.result.now c.as-slice-axes.ensures.value c.requires.waits c.top-newest.result c.top-newest.ensures c.turned_relation.result c.box-ends-ends.result b c.broken_corner.result c.turned_relation.ensures c.box-ends-ends.ensures c.broken_corner.ensures.answer in
-    let v : level (box_of (axes k) (newest_of k.waiting)) ≡ k.depth = sym (level_lent k c.as-slice-axes.result.now c.as-slice-axes.ensures.value c.requires.waits c.top-newest.result c.top-newest.ensures) ∙ sym c.level-level.ensures ∙ c.if-level-self.true in
+    let u : all_satisfy (turned (ticket_of k)).relation b ≡ false = sym (ap (λ r. all_satisfy r b) c.turned_relation.ensures) ∙ sym c.all_satisfy.ensures.answer ∙ c.if-all_satisfy.false in
+    let l = lowest_lent k c.as_slice-axes.result.now c.as_slice-axes.ensures.value c.requires.waits c.top-newest.result c.top-newest.ensures c.turned_relation.result c.box_ends-ends.result b c.broken_corner.result c.turned_relation.ensures c.box_ends-ends.ensures c.broken_corner.ensures.answer in
+    let v : level (box_of (axes k) (newest_of k.waiting)) ≡ k.depth = sym (level_lent k c.as_slice-axes.result.now c.as_slice-axes.ensures.value c.requires.waits c.top-newest.result c.top-newest.ensures) ∙ sym c.level-level.ensures ∙ c.if-level-self.true in
     record { answer = depth_is_found (ticket_of k) (g.C.Chooser.meaning c.args.chooser.now) k.depth (newest_with k b) (few_axes k) u c.broken_corner.result l c.in-None.is (eq-eqb _ _ v); same = refl }
 
 pub returns : goal.returns
@@ -57,10 +57,10 @@ returns g c =
     let k = c.args.self.now in
     let μ = g.C.Chooser.meaning c.args.chooser.now in
     let b = map g.K.Number.means c.args.patch.now in
-    let lent = c.as-slice-axes.result.now in
-    let all = c.as-slice-axes.ensures.value in
-    let u : all_satisfy (turned (ticket_of k)).relation b ≡ false = sym (ap (λ r. all_satisfy r b) c.turned_relation.ensures) ∙ sym c.all_satisfy.ensures.answer ∙ c.if-all-satisfy.false in
-    let l = lowest_lent k lent all c.requires.waits c.top-newest.result c.top-newest.ensures c.turned_relation.result c.box-ends-ends.result b c.broken_corner.result c.turned_relation.ensures c.box-ends-ends.ensures c.broken_corner.ensures.answer in
+    let lent = c.as_slice-axes.result.now in
+    let all = c.as_slice-axes.ensures.value in
+    let u : all_satisfy (turned (ticket_of k)).relation b ≡ false = sym (ap (λ r. all_satisfy r b) c.turned_relation.ensures) ∙ sym c.all_satisfy.ensures.answer ∙ c.if-all_satisfy.false in
+    let l = lowest_lent k lent all c.requires.waits c.top-newest.result c.top-newest.ensures c.turned_relation.result c.box_ends-ends.result b c.broken_corner.result c.turned_relation.ensures c.box_ends-ends.ensures c.broken_corner.ensures.answer in
     let v : c.level-level.result ≡ level (box_of (axes k) (newest_of k.waiting)) = c.level-level.ensures ∙ level_lent k lent all c.requires.waits c.top-newest.result c.top-newest.ensures in
     let deeper : eqb (level (box_of (axes k) (newest_of k.waiting))) k.depth ≡ false = ne_eqb _ _ (λ e. c.if-level-self.false (v ∙ e)) in
     let a =

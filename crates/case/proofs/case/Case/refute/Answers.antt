@@ -9,11 +9,11 @@ use Rattle.case.proofs.case.Case.refute.Goals as goal
 pub top-self-requires : goal.top-self-requires
 top-self-requires g c = record { some = c.requires; room = table_holds c.args.self.now c.requires }
 
-pub overflow-add-self : goal.overflow-add-self
-overflow-add-self g c = let h : c.args.self.now.examined + 1 < 2 ^ 32 = examined_fits c.args.self.now c.requires in search rules
+pub overflow_add-self : goal.overflow_add-self
+overflow_add-self g c = let h : c.args.self.now.examined + 1 < 2 ^ 32 = examined_fits c.args.self.now c.requires in search rules
 
-pub invariant-of-self : goal.invariant-of-self
-invariant-of-self g c =
+pub invariant_of-self : goal.invariant_of-self
+invariant_of-self g c =
     let k = c.args.self.now in
     (k.shaped, (k.sized, (k.bounded, (refuted_sound k c.requires c.clear.new.self c.args.corner c.top-self.result c.top-self.ensures c.clear.ensures, tt))))
 

@@ -13,8 +13,8 @@ push-requires g c =
     let w = c.clear.new.self in
     omega (arith, as_many_newest w.len w.records, ap length c.clear.ensures)
 
-pub invariant-of-self : goal.invariant-of-self
-invariant-of-self g c =
+pub invariant_of-self : goal.invariant_of-self
+invariant_of-self g c =
     let k = c.args.self.now in
     let e : held c.push.new.self ≡ whole_record ∷ [] = c.push.ensures ∙ ap (λ rs. whole_record ∷ rs) c.clear.ensures in
     (k.shaped, (k.sized, (c.requires, (start_is_sound (ticket_of k).axes (few_axes k) c.args.depth (held c.push.new.self) e, tt))))

@@ -6,8 +6,8 @@ use Rattle.case.specs.Model.{ticket_of, model}
 use Rattle.case.proofs.Ran.{room_is_there, granted_reply, granted_next, granted_room, examined_within_ceiling}
 use Rattle.case.proofs.case.Case.run.Goals as goal
 
-pub examine-up-to-requires : goal.examine-up-to-requires
-examine-up-to-requires g c =
+pub examine_up_to-requires : goal.examine_up_to-requires
+examine_up_to-requires g c =
     let k = c.args.self.now in
     let work = map g.K.Number.means c.args.work.now in
     room_is_there (ticket_of k) (length c.args.work.now) k.depth (granted_room (ticket_of k) g.K.Number.limit (g.C.Chooser.meaning c.args.chooser.now) (length c.args.work.now) c.args.n (model k work) (c.in-None.ensures work))

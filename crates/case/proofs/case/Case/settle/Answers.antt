@@ -6,11 +6,11 @@ use Rattle.case.proofs.Standing.{axes, some_held, examined_fits, left_sound}
 use Rattle.case.proofs.Pieces.{leaves}
 use Rattle.case.proofs.case.Case.settle.Goals as goal
 
-pub overflow-add-self : goal.overflow-add-self
-overflow-add-self g c = let h : c.args.self.now.examined + 1 < 2 ^ 32 = examined_fits c.args.self.now c.requires in search rules
+pub overflow_add-self : goal.overflow_add-self
+overflow_add-self g c = let h : c.args.self.now.examined + 1 < 2 ^ 32 = examined_fits c.args.self.now c.requires in search rules
 
-pub invariant-of-self : goal.invariant-of-self
-invariant-of-self g c =
+pub invariant_of-self : goal.invariant_of-self
+invariant_of-self g c =
     let k = c.args.self.now in
     (k.shaped, (k.sized, (k.bounded, (left_sound k c.requires c.pop.new.self k.aside_depth k.aside_range c.pop.ensures (omega arith), tt))))
 

@@ -6,8 +6,8 @@ use Rattle.case.proofs.Standing.{axes, few_axes, some_held, fewer_wait_than_halv
 use Rattle.case.proofs.Pieces.{splits}
 use Rattle.case.proofs.case.Case.split.Goals as goal
 
-pub halve-top-requires : goal.halve-top-requires
-halve-top-requires g c =
+pub halve_top-requires : goal.halve_top-requires
+halve_top-requires g c =
     let k = c.args.self.now in
     let w = c.requires.waits in
     record {
@@ -17,11 +17,11 @@ halve-top-requires g c =
       small = (omega (arith, halved_at_most_24 k w c.args.axis c.requires.inside), place_may_double k w c.args.axis c.requires.inside);
     }
 
-pub overflow-add-self : goal.overflow-add-self
-overflow-add-self g c = let h : c.args.self.now.examined + 1 < 2 ^ 32 = examined_fits c.args.self.now c.requires.waits in search rules
+pub overflow_add-self : goal.overflow_add-self
+overflow_add-self g c = let h : c.args.self.now.examined + 1 < 2 ^ 32 = examined_fits c.args.self.now c.requires.waits in search rules
 
-pub invariant-of-self : goal.invariant-of-self
-invariant-of-self g c =
+pub invariant_of-self : goal.invariant_of-self
+invariant_of-self g c =
     let k = c.args.self.now in
     (k.shaped, (k.sized, (k.bounded, (split_sound k c.requires.waits c.halve_top.new.self c.args.axis c.args.first c.requires.inside c.requires.shallow c.halve_top.ensures, tt))))
 

@@ -3,8 +3,8 @@ use Rattle.search.specs.declared.verdict.Verdict.{Verdict}
 use Rattle.case.proofs.Told.{few_wait, as_many_wait}
 use Rattle.case.proofs.case.Case.verdict.Goals as goal
 
-pub overflow-cast-result : goal.overflow-cast-result
-overflow-cast-result g c = let h : c.args.self.now.waiting.len ≤ 25 = few_wait c.args.self.now in search rules
+pub overflow_cast-result : goal.overflow_cast-result
+overflow_cast-result g c = let h : c.args.self.now.waiting.len ≤ 25 = few_wait c.args.self.now in search rules
 
 pub returns : goal.returns
 returns g c =

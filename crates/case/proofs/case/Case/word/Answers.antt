@@ -6,5 +6,5 @@ use Rattle.case.proofs.case.Case.word.Goals as goal
 pub returns-then-self-gt0 : goal.returns-then-self-gt0
 returns-then-self-gt0 g c = λ work. word_while_waiting c.args.self.now work c.if-self-gt0.true
 
-pub overflow-add-self : goal.overflow-add-self
-overflow-add-self g c = let h : c.args.self.now.aside_depth + c.args.self.now.aside_range < 2 ^ 32 = few_aside c.args.self.now in search rules
+pub overflow_add-self : goal.overflow_add-self
+overflow_add-self g c = let h : c.args.self.now.aside_depth + c.args.self.now.aside_range < 2 ^ 32 = few_aside c.args.self.now in search rules

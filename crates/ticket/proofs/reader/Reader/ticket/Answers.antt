@@ -3,31 +3,31 @@ use Rattle.ticket.proofs.Exact.{refused, starved, built, unambiguous}
 use Rattle.ticket.proofs.Sound.{sound}
 use Rattle.ticket.proofs.reader.Reader.ticket.Goals as goal
 
-pub returns-in-err-draft : goal.returns-in-err-draft
-returns-in-err-draft c =
-    let owed = refused (lent c.args.self.now) c.from-residual.result c.from-residual.ensures.1 c.in-err-draft.ensures.value in
+pub returns-in_err-draft : goal.returns-in_err-draft
+returns-in_err-draft c =
+    let owed = refused (lent c.args.self.now) c.from_residual.result c.from_residual.ensures.1 c.in_err-draft.ensures.value in
     record { answer = owed.answer; exactly = owed.exactly; unambiguous = unambiguous }
 
-pub returns-in-err-axes : goal.returns-in-err-axes
-returns-in-err-axes c =
-    let read = c.in-ok-draft.ensures in
-    let owed = starved (lent c.args.self.now) c.from-residual-in-err-axes.result c.from-residual-in-err-axes.ensures.1 read.bytes read.value in
+pub returns-in_err-axes : goal.returns-in_err-axes
+returns-in_err-axes c =
+    let read = c.in_ok-draft.ensures in
+    let owed = starved (lent c.args.self.now) c.from_residual-in_err-axes.result c.from_residual-in_err-axes.ensures.1 read.bytes read.value in
     record { answer = owed.answer; exactly = owed.exactly; unambiguous = unambiguous }
 
-pub returns-in-err-terms : goal.returns-in-err-terms
-returns-in-err-terms c =
-    let read = c.in-ok-draft.ensures in
-    let owed = starved (lent c.args.self.now) c.from-residual-in-err-terms.result c.from-residual-in-err-terms.ensures.1 read.bytes read.value in
+pub returns-in_err-terms : goal.returns-in_err-terms
+returns-in_err-terms c =
+    let read = c.in_ok-draft.ensures in
+    let owed = starved (lent c.args.self.now) c.from_residual-in_err-terms.result c.from_residual-in_err-terms.ensures.1 read.bytes read.value in
     record { answer = owed.answer; exactly = owed.exactly; unambiguous = unambiguous }
 
-pub invariant-of-result : goal.invariant-of-result
-invariant-of-result c =
-    let read = c.in-ok-draft.ensures in
-    let is = built (lent c.args.self.now) c.in-ok-draft.draft c.in-ok-draft.question _ _ read.value c.in-ok-axes.ensures.items c.in-ok-terms.ensures.items in
-    ((sound (lent c.args.self.now) _ read.bytes is).formed, tt)
+pub invariant_of-result : goal.invariant_of-result
+invariant_of-result c =
+    let read = c.in_ok-draft.ensures in
+    let is = built (lent c.args.self.now) c.in_ok-draft.draft c.in_ok-draft.question _ _ read.value c.in_ok-axes.ensures.items c.in_ok-terms.ensures.items in
+    record { formed = (sound (lent c.args.self.now) _ read.bytes is).formed }
 
 pub returns : goal.returns
 returns c =
-    let read = c.in-ok-draft.ensures in
-    let is = built (lent c.args.self.now) c.in-ok-draft.draft c.in-ok-draft.question _ _ read.value c.in-ok-axes.ensures.items c.in-ok-terms.ensures.items in
+    let read = c.in_ok-draft.ensures in
+    let is = built (lent c.args.self.now) c.in_ok-draft.draft c.in_ok-draft.question _ _ read.value c.in_ok-axes.ensures.items c.in_ok-terms.ensures.items in
     record { answer = is; exactly = sound (lent c.args.self.now) _ read.bytes is; unambiguous = unambiguous }

@@ -4,30 +4,30 @@ use Rattle.ticket.proofs.Chains.{through, stops, told}
 use Rattle.ticket.proofs.SizedExit.{exit_sized}
 use Rattle.ticket.proofs.ticket.Ticket.sized.Goals as goal
 
-pub returns-in-err-check : goal.returns-in-err-check
+pub returns-in_err-check : goal.returns-in_err-check
 unfolding sizing
-returns-in-err-check c =
-    exit_sized _ c.from-residual.ensures.1
-    (stops _ (told _ (c.is_patch.ensures ∙ ap is_patch c.deref.ensures.value) c.in-err-check.ensures))
+returns-in_err-check c =
+    exit_sized _ c.from_residual.ensures.1
+    (stops _ (told _ (c.is_patch.ensures ∙ ap is_patch c.deref.ensures.value) c.in_err-check.ensures))
 
-pub returns-in-err-check-2 : goal.returns-in-err-check-2
+pub returns-in_err-check-2 : goal.returns-in_err-check-2
 unfolding sizing
-returns-in-err-check-2 c =
-    exit_sized _ c.from-residual-in-err-check-2.ensures.1
-    (through _ (told _ (c.is_patch.ensures ∙ ap is_patch c.deref.ensures.value) c.in-ok-check.ensures)
-    (stops _ (told _ (c.is_sized.ensures ∙ (λ i. is_sized (c.deref-2.ensures.value i) (c.deref-3.ensures.value i))) c.in-err-check-2.ensures)))
+returns-in_err-check-2 c =
+    exit_sized _ c.from_residual-in_err-check-2.ensures.1
+    (through _ (told _ (c.is_patch.ensures ∙ ap is_patch c.deref.ensures.value) c.in_ok-check.ensures)
+    (stops _ (told _ (c.is_sized.ensures ∙ (λ i. is_sized (c.deref-2.ensures.value i) (c.deref-3.ensures.value i))) c.in_err-check-2.ensures)))
 
-pub returns-in-err-check-drifts : goal.returns-in-err-check-drifts
+pub returns-in_err-check_drifts : goal.returns-in_err-check_drifts
 unfolding sizing
-returns-in-err-check-drifts c =
-    exit_sized _ c.from-residual-in-err-check-drifts.ensures.1
-    (through _ (told _ (c.is_patch.ensures ∙ ap is_patch c.deref.ensures.value) c.in-ok-check.ensures)
-    (through _ (told _ (c.is_sized.ensures ∙ (λ i. is_sized (c.deref-2.ensures.value i) (c.deref-3.ensures.value i))) c.in-ok-check-2.ensures)
-    (stops _ (c.in-err-check-drifts.ensures ∙ (λ i. drifts_carried c.args.drifts ((c.len.ensures ∙ c.args.self.axes.ok.0) i) (c.deref-4.ensures.value i))))))
+returns-in_err-check_drifts c =
+    exit_sized _ c.from_residual-in_err-check_drifts.ensures.1
+    (through _ (told _ (c.is_patch.ensures ∙ ap is_patch c.deref.ensures.value) c.in_ok-check.ensures)
+    (through _ (told _ (c.is_sized.ensures ∙ (λ i. is_sized (c.deref-2.ensures.value i) (c.deref-3.ensures.value i))) c.in_ok-check-2.ensures)
+    (stops _ (c.in_err-check_drifts.ensures ∙ (λ i. drifts_carried c.args.drifts ((c.len.ensures ∙ c.args.self.axes.ok.0) i) (c.deref-4.ensures.value i))))))
 
 pub returns : goal.returns
 unfolding sizing
 returns c =
-    through _ (told _ (c.is_patch.ensures ∙ ap is_patch c.deref.ensures.value) c.in-ok-check.ensures)
-    (through _ (told _ (c.is_sized.ensures ∙ (λ i. is_sized (c.deref-2.ensures.value i) (c.deref-3.ensures.value i))) c.in-ok-check-2.ensures)
-    (through _ (c.in-ok-check-drifts.ensures ∙ (λ i. drifts_carried c.args.drifts ((c.len.ensures ∙ c.args.self.axes.ok.0) i) (c.deref-4.ensures.value i))) refl))
+    through _ (told _ (c.is_patch.ensures ∙ ap is_patch c.deref.ensures.value) c.in_ok-check.ensures)
+    (through _ (told _ (c.is_sized.ensures ∙ (λ i. is_sized (c.deref-2.ensures.value i) (c.deref-3.ensures.value i))) c.in_ok-check-2.ensures)
+    (through _ (c.in_ok-check_drifts.ensures ∙ (λ i. drifts_carried c.args.drifts ((c.len.ensures ∙ c.args.self.axes.ok.0) i) (c.deref-4.ensures.value i))) refl))
