@@ -1,5 +1,5 @@
 -- How large the Bernstein coefficients of a power can be, and every number on the way to them.
-use Rattle.std.proofs.Common.{◌≡◌, ℕ, zero, suc, ◌+◌, ◌-◌, ◌*◌, ◌/◌, ◌^◌, ◌<◌, ◌≤◌, ℤ, pos, negsuc, ◌+ℤ◌, ◌-ℤ◌, ◌*ℤ◌, neg_ℤ, nat_abs, sym, refl, ap, ◌∙◌, ap₂, mul_comm, mul-le-mul, mul-le-mul_left, mul-zero, mul-add, div-mul-le_self, arith, pow_add}
+use Rattle.std.proofs.Common.{◌≡◌, ℕ, zero, suc, ◌+◌, ◌-◌, ◌*◌, ◌/◌, ◌^◌, ◌<◌, ◌≤◌, ℤ, pos, negsuc, ◌+ℤ◌, ◌-ℤ◌, ◌*ℤ◌, neg_ℤ, nat_abs, sym, refl, ap, ◌∙◌, ap₂, mul_comm, mul-le-mul, mul-le-mul_left, mul-zero, mul-add, div-mul-le_self, arith, pow-add}
 use native.Mathlib.Nat.{pow-zero, pow-succ', pow-le-pow_left, pow-le-pow_right}
 use borrow.Author.Differences.{ints}
 use lib.IntN.{*ℤ_comm}
@@ -120,7 +120,7 @@ module _ (a b : ℤ) (e : ℕ) where
 
   pub powers_small : (m : ℕ) → m ≤ e → nat_abs (pow (b -ℤ a) m *ℤ pow a (e - m)) ≤ size ^ e
   powers_small m h =
-      let whole : size ^ m * size ^ (e - m) ≡ size ^ e = (let s : m + (e - m) ≡ e = omega arith in sym (pow_add size m (e - m)) ∙ ap (λ z. size ^ z) s) in
+      let whole : size ^ m * size ^ (e - m) ≡ size ^ e = (let s : m + (e - m) ≡ e = omega arith in sym (pow-add size m (e - m)) ∙ ap (λ z. size ^ z) s) in
       omega (arith, powers_size m, whole, mul-le-mul (pow-le-pow_left {n = nat_abs (b -ℤ a)} {m = size} (omega arith) m) (pow-le-pow_left {n = nat_abs a} {m = size} (omega arith) (e - m)))
 
   pub part_small : (m : ℕ) → m ≤ e → nat_abs (part m) ≤ size ^ e

@@ -1,5 +1,5 @@
 -- Corners, axis by axis, and their numbers.
-use Rattle.std.proofs.Common.{◌≡◌, ℕ, zero, suc, ◌+◌, ◌-◌, ◌*◌, ◌/◌, ◌%◌, ◌^◌, ◌<◌, ◌≤◌, Bool, true, false, cond, ◌&&◌, ◌⊎◌, List, [], ◌∷◌, map, length, get_or, drop, Some, None, Option, sym, refl, ap, ◌∙◌, ap₂, ⊎_elim, mod-lt, mod-eq_of_lt, mul_assoc, mul_comm, add-mul, mul-le-mul_left, one-mul, mul-one, add-one, arith, pow_pos, pow_mono, pow_add}
+use Rattle.std.proofs.Common.{◌≡◌, ℕ, zero, suc, ◌+◌, ◌-◌, ◌*◌, ◌/◌, ◌%◌, ◌^◌, ◌<◌, ◌≤◌, Bool, true, false, cond, ◌&&◌, ◌⊎◌, List, [], ◌∷◌, map, length, get_or, drop, Some, None, Option, sym, refl, ap, ◌∙◌, ap₂, ⊎_elim, mod-lt, mod-eq_of_lt, mul_assoc, mul_comm, add-mul, mul-le-mul_left, one-mul, mul-one, add-one, arith, pow_pos, pow_mono, pow-add}
 use native.Mathlib.Nat.{pow-succ', add-mul-div_left, add-mul-mod_self_left, mod-one, div-eq_of_lt, div-eq_of_lt-le}
 use lib.Arith.{mod-mul}
 use Rattle.std.specs.Option.{option_map}
@@ -80,7 +80,7 @@ bytes : (j : ℕ) → 256 ^ j ≡ 2 ^ (8 * j)
 bytes zero = refl
 bytes (suc j) =
     let e : 8 * suc j ≡ 8 + 8 * j = omega arith in
-    pow-succ' 256 j ∙ ap (λ x. 256 * x) (bytes j) ∙ sym (ap (λ n. 2 ^ n) e ∙ pow_add 2 8 (8 * j))
+    pow-succ' 256 j ∙ ap (λ x. 256 * x) (bytes j) ∙ sym (ap (λ n. 2 ^ n) e ∙ pow-add 2 8 (8 * j))
 
 -- the places of four axes at most
 pub place_fits : (p j : ℕ) → p < 256 ^ j → j ≤ 4 → p < 2 ^ 32
@@ -100,7 +100,7 @@ digit_same : (c k m : ℕ) → k < m → (c + 2 ^ m) / 2 ^ k % 2 ≡ c / 2 ^ k %
 digit_same c k m l =
     let q : ℕ = 2 ^ (m - suc k) in
     let e : m ≡ k + suc (m - suc k) = omega arith in
-    let p : 2 ^ m ≡ 2 ^ k * (2 * q) = ap (λ n. 2 ^ n) e ∙ pow_add 2 k (suc (m - suc k)) ∙ ap (λ x. 2 ^ k * x) (pow-succ' 2 (m - suc k)) in
+    let p : 2 ^ m ≡ 2 ^ k * (2 * q) = ap (λ n. 2 ^ n) e ∙ pow-add 2 k (suc (m - suc k)) ∙ ap (λ x. 2 ^ k * x) (pow-succ' 2 (m - suc k)) in
     ap (λ x. (c + x) / 2 ^ k % 2) p ∙ ap (λ x. x % 2) (add-mul-div_left c (2 * q) (pow_pos k)) ∙ add-mul-mod_self_left (c / 2 ^ k) 2 q
 
 corner_same : (c k m : ℕ) → k ≤ m → corner_of k (c + 2 ^ m) ≡ corner_of k c

@@ -14,7 +14,7 @@ converted-product-requires c = turn_convertible c.args.axes.now c.args.exponents
 
 pub overflow_cast-left : goal.overflow_cast-left
 overflow_cast-left c =
-    let a = converted-product-requires c tt in
+    let a = converted-product-requires c in
     let k : c.loop-j.left / (c.loop-j.later / (c.from.result + 1)) < 256 = omega (arith, a.place, a.degree) in
     record { fits = k }
 
