@@ -5,7 +5,7 @@ use Rattle.readings.proofs.hex.hex_bytes.Goals as goal
 
 pub loop-pair-init : goal.loop-pair-init
 loop-pair-init c =
-    let whole = ap chunks_rest c.into-iter-pair-iterator.ensures.into-iter-gives ∙ c.chunks-pair-items.ensures.rest ∙ c.as_bytes.ensures.value in
+    let whole = ap chunks_rest c.into_iter-pair-iterator.ensures.into_iter_gives ∙ c.chunks-pair-items.ensures.rest ∙ c.as_bytes.ensures.value in
     nothing_yet _ _ _ c.new-bytes.ensures.items whole
 
 pub loop-pair-preserved : goal.loop-pair-preserved

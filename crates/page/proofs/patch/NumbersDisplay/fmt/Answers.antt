@@ -11,7 +11,7 @@ loop-place-preserved g c = λ plain.
     let i = c.loop-place.place in
     so_far_more g.W.Write.write_str_gives c.args.f.now c.loop-place.f c.write.new.self _ _ _ _ s
     (numbered_more (λ n x. listed_text (eqb n 0) x) xs i c.x-item.result c.loop-place-test.true ∙ ap (λ x. listed_text (eqb i 0) x ++ numbered (λ n x. listed_text (eqb n 0) x) (i + 1) (drop (i + 1) xs)) (sym c.x-item.is))
-    (c.in_ok-write.ensures.shows s.put.plain refl)
+    (c.in_ok-write.ensures.writes s.put.plain refl)
 
 pub returns-clause-writes : goal.returns-clause-writes
 returns-clause-writes g c = λ plain ok.

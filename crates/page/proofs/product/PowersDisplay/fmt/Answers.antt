@@ -14,7 +14,7 @@ loop-axis-preserved g c = λ plain.
     let j = c.loop-axis.axis in
     let h : j < length es = search rules in
     let s = c.loop-axis.invariant plain in
-    so_far_more g.W.Write.write_str_gives c.args.f.now c.loop-axis.f c.write.new.self _ _ _ _ s (one_more c.loop-axis.leads es j h) (c.in_ok-write.ensures.shows s.put.plain refl)
+    so_far_more g.W.Write.write_str_gives c.args.f.now c.loop-axis.f c.write.new.self _ _ _ _ s (one_more c.loop-axis.leads es j h) (c.in_ok-write.ensures.writes s.put.plain refl)
 
 pub returns-clause-writes : goal.returns-clause-writes
 returns-clause-writes g c = λ plain ok.
