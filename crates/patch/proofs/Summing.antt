@@ -1,18 +1,18 @@
 -- The number at a place of the first patch as a sum of the terms: no product and no sum on the way exceeds a word.
-use Rattle.std.proofs.Common.{◌≡◌, ℕ, suc, ◌+◌, ◌*◌, ◌<◌, ◌≤◌, Bool, true, false, ◌&&◌, ◌||◌, eqb, leb, ◌⊎◌, List, [], ◌∷◌, length, get_or, drop, ℤ, pos, ◌+ℤ◌, ◌*ℤ◌, neg_ℤ, nat_abs, is_some, sym, refl, ap, ◌∙◌, subst, ap₂, inl, inr, ⊎_elim, le_trans, mul_comm, mul-le-mul_left, mul-add, le-mul_of_pos_right, arith}
+use Rattle.std.proofs.Common.{◌≡◌, ℕ, ◌+◌, ◌*◌, ◌<◌, ◌≤◌, Bool, true, false, ◌&&◌, ◌||◌, eqb, leb, ◌⊎◌, List, [], ◌∷◌, length, get_or, drop, ℤ, pos, ◌+ℤ◌, ◌*ℤ◌, neg_ℤ, nat_abs, is_some, sym, refl, ap, ◌∙◌, subst, ap₂, ⊎_elim, le_trans, mul_comm, mul-le-mul_left, mul-add, le-mul_of_pos_right, arith}
 use Rattle.std.proofs.lemmas.List.{drop_more, drop_all}
 use Rattle.std.proofs.lemmas.Int.{ints}
 use Rattle.std.proofs.lemmas.Bool.{and_parts, eqb-true, leb-true, le-leb}
 use Rattle.std.specs.Bool.{then_some}
 use Rattle.algebra.specs.Form.{Index}
 use Rattle.algebra.specs.Layout.{numbers, index_of}
-use Rattle.algebra.specs.Pair.{Pair, pair, sum, multiple}
+use Rattle.algebra.specs.Pair.{Pair, pair, sum}
 use Rattle.algebra.proofs.Places.{index_is_index}
 use Rattle.algebra.proofs.Ring.{con, ◌⊕◌, ◌⊗◌, ring, x₀}
 use Rattle.number.specs.Limits.{word, carries, made}
 use Rattle.ticket.specs.Numbers.{fits_four_bytes}
 use Rattle.ticket.specs.Sizes.{degrees_of, scale, power_reach, terms_size, size_of, value_size, drift_size, is_sized}
-use Rattle.ticket.specs.WellFormed.{Content, Formed, all, axis_formed, exponents_formed, term_formed}
+use Rattle.ticket.specs.WellFormed.{Content, Formed, all, exponents_formed, term_formed}
 use Rattle.ticket.specs.declared.records.Axis.{Axis}
 use Rattle.ticket.specs.declared.records.Term.{Term}
 use Rattle.ticket.specs.declared.records.Relation.{Relation}
@@ -20,7 +20,7 @@ use Rattle.ticket.specs.declared.records.Relation.TheVariants.{Greater, AtLeast,
 use Rattle.ticket.proofs.BelowCap.{few_axes}
 use Rattle.patch.specs.Conversion.{Monomial}
 use Rattle.patch.specs.FirstPatch.{turned, turned_terms, of_powers, first_number, turned_pair, Summable, all_carried}
-use Rattle.patch.specs.Point.{pair_of, sum_over}
+use Rattle.patch.specs.Point.{sum_over}
 use Rattle.patch.proofs.Formed.{both_lists}
 use Rattle.patch.proofs.Sizes.{sum_size, number_within}
 use Rattle.patch.proofs.Turned.{sum_negated}

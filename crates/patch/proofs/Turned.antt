@@ -1,5 +1,5 @@
 -- The turned inequality is the ticket's own, and what all coefficients satisfy, the form satisfies.
-use Rattle.std.proofs.Common.{◌≡◌, ℕ, true, false, ◌↔◌, List, [], ◌∷◌, map, ℤ, pos, negsuc, sym, refl, ap, ◌∙◌}
+use Rattle.std.proofs.Common.{◌≡◌, ℕ, true, ◌↔◌, List, [], ◌∷◌, map, ℤ, pos, negsuc, sym, refl, ap, ◌∙◌}
 use Rattle.std.specs.List.{AllByRecursion as All}
 use Rattle.std.proofs.lemmas.Bool.{true≢false}
 use Rattle.algebra.specs.Form.{Axis as Distances, degrees, Between, Index, form}

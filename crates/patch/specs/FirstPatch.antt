@@ -1,5 +1,5 @@
 -- The patch that a ticket's polynomial has on the whole box, and the inequality turned so that it asks for more than 0.
-use Rattle.std.specs.Prelude.{◌≡◌, ℕ, ◌*◌, ◌<◌, ◌≤◌, Bool, true, ◌&&◌, List, [], ◌∷◌, map, length, take, drop, ℤ, pos, ◌*ℤ◌, neg_ℤ, nat_le, slice_index}
+use Rattle.std.specs.Prelude.{◌≡◌, ℕ, ◌<◌, ◌≤◌, Bool, true, ◌&&◌, List, [], ◌∷◌, map, length, take, drop, ℤ, pos, ◌*ℤ◌, neg_ℤ, nat_le, slice_index}
 use Rattle.std.specs.List.{range_with_len}
 use Rattle.algebra.specs.Bernstein.{of_power}
 use Rattle.algebra.specs.Layout.{numbers, index_of}

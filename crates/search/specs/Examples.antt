@@ -1,5 +1,5 @@
 -- Searches worked out by hand, and computed by the definitions.
-use Rattle.std.specs.Prelude.{◌≡◌, ℕ, ◌-◌, ◌^◌, Bool, true, false, List, [], ◌∷◌, length, ℤ, pos, negsuc, Some, None, Err}
+use Rattle.std.specs.Prelude.{◌≡◌, ℕ, ◌-◌, ◌^◌, Bool, true, false, List, [], ◌∷◌, ℤ, pos, negsuc, Some, None, Err}
 use Rattle.algebra.specs.Pair.{pair}
 use Rattle.number.specs.Limits.{word}
 use Rattle.ticket.specs.Faults.{fault}

@@ -1,5 +1,5 @@
 -- The sizes of a sized ticket are below the cap, so they are the sizes themselves.
-use Rattle.std.proofs.Common.{◌≡◌, ℕ, zero, suc, ◌*◌, ◌^◌, ◌<◌, ◌≤◌, true, ◌&&◌, leb, List, [], ◌∷◌, length, get_or, mul-le-mul, arith, lit≤}
+use Rattle.std.proofs.Common.{◌≡◌, ℕ, zero, suc, ◌^◌, ◌<◌, ◌≤◌, true, ◌&&◌, leb, List, [], ◌∷◌, length, get_or, mul-le-mul, arith, lit≤}
 use native.Mathlib.Nat.{pow-le-pow_right, pow-succ', pow-zero}
 use Rattle.std.specs.List.{AllByRecursion as All}
 use Rattle.std.proofs.lemmas.Bool.{and_parts, leb-true}

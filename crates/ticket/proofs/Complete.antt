@@ -6,7 +6,7 @@ use Rattle.std.proofs.lemmas.Bool.{and_parts, eqb-true, leb-true, le-leb, lt-ltb
 use Rattle.ticket.specs.Encoding.{axis_bytes, term_bytes, question_bytes, axes_bytes, terms_bytes, encoded}
 use Rattle.ticket.specs.Faults.{fault, checked, next, each_checked}
 use Rattle.ticket.specs.Numbers.{is_degree, is_end, is_depth, whole, four_bytes, fits_four_bytes, flags}
-use Rattle.ticket.specs.Reading.{exponents, axis_of, term_of, question_of, known, Seen, nothing, added, axis_record, term_record, question_record, record_of, records_of, finished, is_length, reading}
+use Rattle.ticket.specs.Reading.{axis_of, term_of, question_of, known, Seen, nothing, added, axis_record, term_record, question_record, record_of, records_of, finished, is_length, reading}
 use Rattle.ticket.specs.WellFormed.{Content, degree_at, all, axis_formed, exponents_formed, term_formed, Formed}
 use Rattle.ticket.specs.declared.fault.Fault.{Fault}
 use Rattle.ticket.specs.declared.fault.Refusal.TheVariants.{Length, Turn, NotZero, Degree, End, Exponent, Relation as NoRelation, Depth}

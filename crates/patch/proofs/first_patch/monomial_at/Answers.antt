@@ -1,4 +1,4 @@
-use Rattle.std.proofs.Common.{◌≡◌, ◌+◌, ◌/◌, ◌<◌, refl, arith}
+use Rattle.std.proofs.Common.{◌+◌, ◌/◌, ◌<◌, refl, arith}
 use Rattle.patch.proofs.Monomials.{none_yet, all_done, turn_positive, turn_convertible, turn_small, turn_next}
 use Rattle.patch.proofs.Words.{answer_is, product_fits, product_is}
 use Rattle.patch.proofs.first_patch.monomial_at.Goals as goal

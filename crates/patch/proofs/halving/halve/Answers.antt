@@ -1,6 +1,6 @@
 use Rattle.std.proofs.Common.{◌≡◌, ℕ, ◌+◌, ◌*◌, ◌^◌, ◌<◌, true, false, map, length, get_or, sym, ap, ◌∙◌, subst, arith, rules, leb-true}
 use Rattle.std.proofs.lemmas.List.{length-map}
-use Rattle.algebra.specs.Layout.{numbers, stride}
+use Rattle.algebra.specs.Layout.{numbers}
 use Rattle.patch.specs.Sweeps.{pair_at}
 use Rattle.patch.specs.Halving.{Split}
 use Rattle.patch.proofs.Granting.{no_shape, no_room, by_growth, room_is, growth_is}

@@ -1,4 +1,4 @@
-use Rattle.std.proofs.Common.{◌≡◌, ℕ, ◌+◌, ◌-◌, ◌<◌, map, length, set, sym, ◌∙◌, subst, arith}
+use Rattle.std.proofs.Common.{◌≡◌, ℕ, ◌+◌, ◌<◌, map, length, set, sym, ◌∙◌, subst, arith}
 use Rattle.algebra.specs.Pair.{Pair, Within, sum}
 use Rattle.patch.specs.Sweeps.{pair_at}
 use Rattle.patch.proofs.Stretches.{Part, item, part_more}

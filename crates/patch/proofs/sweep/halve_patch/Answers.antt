@@ -1,4 +1,4 @@
-use Rattle.std.proofs.Common.{◌≡◌, ℕ, ◌+◌, ◌-◌, ◌*◌, ◌^◌, ◌<◌, map, length, sym, ap, ◌∙◌, subst, arith, rules}
+use Rattle.std.proofs.Common.{◌≡◌, ℕ, ◌+◌, ◌*◌, ◌^◌, ◌<◌, map, length, sym, ap, ◌∙◌, subst, arith, rules}
 use Rattle.patch.specs.Sweeps.{pair_at}
 use Rattle.patch.proofs.Rows.{row_end}
 use Rattle.patch.specs.Sweeps.{row_of, spot}

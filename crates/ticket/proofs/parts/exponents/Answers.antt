@@ -1,4 +1,4 @@
-use Rattle.std.proofs.Common.{◌-◌, get_or, sym, ◌∙◌, rules}
+use Rattle.std.proofs.Common.{get_or, sym, ◌∙◌, rules}
 use Rattle.ticket.specs.Drafts.{seen}
 use Rattle.ticket.proofs.Chains.{exit, told, from_start, from_stops, from_goes, from_end}
 use Rattle.ticket.proofs.Degrees.{at_byte}

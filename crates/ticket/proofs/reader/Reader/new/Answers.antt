@@ -1,4 +1,3 @@
-use Rattle.std.proofs.Common.{◌-◌}
 use Rattle.std.proofs.lemmas.List.{take_rest}
 use Rattle.ticket.proofs.reader.Reader.new.Goals as goal
 
