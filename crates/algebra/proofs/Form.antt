@@ -1,7 +1,7 @@
 -- The Bernstein form along several axes, axis by axis from the laws of one.
 use Rattle.std.proofs.Common.{◌≡◌, ℕ, zero, suc, ◌-◌, ◌≤◌, List, [], ◌∷◌, get_or, ℤ, pos, ◌<ℤ◌, sym, refl, ap, ◌∙◌, arith}
 use mathlib.Core.Path.{fun_ext}
-use Rattle.std.specs.List.{AllByRecursion as All}
+use Rattle.std.specs.List.{AllByRecursion}
 use Rattle.std.proofs.lemmas.Int.{ints}
 use Rattle.algebra.specs.Module.{Ops, pow}
 use Rattle.algebra.specs.Pair.{Pair, pairs, sign_of, IsPositive, NotNegative}
@@ -90,25 +90,25 @@ pub ends_apart : (e : Half) (x : Axis) → Between x → distance e x ≡ pos 0 
 ends_apart Lower x b z = omega (arith, ints, z, b.apart)
 ends_apart Upper x b z = omega (arith, ints, z, b.apart)
 
-pub corner_weight_positive : (xs : List Axis) (es : List Half) → All Between xs → AtCorner xs es → pos 0 <ℤ corner_weight xs es
+pub corner_weight_positive : (xs : List Axis) (es : List Half) → AllByRecursion Between xs → AtCorner xs es → pos 0 <ℤ corner_weight xs es
 corner_weight_positive [] es b c = omega (arith, ints)
 corner_weight_positive (x ∷ xs) [] b c = absurd c
 corner_weight_positive (x ∷ xs) (e ∷ es) b c =
     let d : ℤ = distance (other e) x in
     pos-* (pow d x.degree) (corner_weight xs es) (pow_positive d x.degree (ends_apart e x b.0 c.0)) (corner_weight_positive xs es b.1 c.1)
 
-pub corner_shows_sign : (xs : List Axis) (es : List Half) (f : List ℕ → Pair) → All Between xs → AtCorner xs es → sign_of (form pairs xs f) ≡ sign_of (f (corner_index (degrees xs) es))
+pub corner_shows_sign : (xs : List Axis) (es : List Half) (f : List ℕ → Pair) → AllByRecursion Between xs → AtCorner xs es → sign_of (form pairs xs f) ≡ sign_of (f (corner_index (degrees xs) es))
 corner_shows_sign xs es f b c = ap sign_of (form_at_corner pairs_laws xs es f c) ∙ multiple_keeps_sign (corner_weight xs es) _ (corner_weight_positive xs es b c)
 
 -- ---- the sign
 form_keeps : (P : Pair → Type 0) → ((x : Axis) → Between x → (f : ℕ → Pair) → ((k : ℕ) → k ≤ x.degree → P (f k)) → P (eval pairs x.degree x.s x.t f)) →
-    (xs : List Axis) (f : List ℕ → Pair) → All Between xs → ((ks : List ℕ) → Index (degrees xs) ks → P (f ks)) → P (form pairs xs f)
+    (xs : List Axis) (f : List ℕ → Pair) → AllByRecursion Between xs → ((ks : List ℕ) → Index (degrees xs) ks → P (f ks)) → P (form pairs xs f)
 form_keeps P one [] f b h = h [] tt
 form_keeps P one (x ∷ xs) f b h =
     one x b.0 (λ k. form pairs xs (λ ks. f (k ∷ ks))) (λ k p. form_keeps P one xs (λ ks. f (k ∷ ks)) b.1 (λ ks q. h (k ∷ ks) (p, q)))
 
-pub form_keeps_positive : (xs : List Axis) (f : List ℕ → Pair) → All Between xs → ((ks : List ℕ) → Index (degrees xs) ks → IsPositive (f ks)) → IsPositive (form pairs xs f)
+pub form_keeps_positive : (xs : List Axis) (f : List ℕ → Pair) → AllByRecursion Between xs → ((ks : List ℕ) → Index (degrees xs) ks → IsPositive (f ks)) → IsPositive (form pairs xs f)
 form_keeps_positive = form_keeps IsPositive (λ x b f. eval_keeps_positive x.degree x.s x.t f b.above b.below b.apart)
 
-pub form_keeps_not_negative : (xs : List Axis) (f : List ℕ → Pair) → All Between xs → ((ks : List ℕ) → Index (degrees xs) ks → NotNegative (f ks)) → NotNegative (form pairs xs f)
+pub form_keeps_not_negative : (xs : List Axis) (f : List ℕ → Pair) → AllByRecursion Between xs → ((ks : List ℕ) → Index (degrees xs) ks → NotNegative (f ks)) → NotNegative (form pairs xs f)
 form_keeps_not_negative = form_keeps NotNegative (λ x b f. eval_keeps_not_negative x.degree x.s x.t f b.above b.below)

@@ -1,6 +1,6 @@
 -- What is proved of pairs, of the Bernstein form along one axis and along several, and of its layout in a list.
 use Rattle.std.specs.Prelude.{◌≡◌, ℕ, suc, ◌+◌, ◌-◌, ◌*◌, ◌%◌, ◌<◌, ◌≤◌, ◌↔◌, List, length, ℤ, pos, negsuc, ◌+ℤ◌, ◌-ℤ◌, ◌*ℤ◌, ◌≤ℤ◌, ◌<ℤ◌, slice_index, slice_set}
-use Rattle.std.specs.List.{AllByRecursion as All}
+use Rattle.std.specs.List.{AllByRecursion}
 use Rattle.algebra.specs.Module.{integers, pow}
 use Rattle.algebra.specs.Pair.{Pair, pairs, sum, multiple, opposite, sign_of, turned, IsPositive, NotNegative, FirstOr}
 use Rattle.algebra.specs.Bernstein.{choose, total, eval, low, high, of_power}
@@ -86,18 +86,18 @@ abbrev pub FormReadsIndices : Type 0
 FormReadsIndices = (xs : List Axis) (f g : List ℕ → Pair) → ((ks : List ℕ) → Index (degrees xs) ks → f ks ≡ g ks) → form pairs xs f ≡ form pairs xs g
 
 abbrev pub FormKeepsPositive : Type 0
-FormKeepsPositive = (xs : List Axis) (f : List ℕ → Pair) → All Between xs →
+FormKeepsPositive = (xs : List Axis) (f : List ℕ → Pair) → AllByRecursion Between xs →
     ((ks : List ℕ) → Index (degrees xs) ks → IsPositive (f ks)) → IsPositive (form pairs xs f)
 
 abbrev pub FormKeepsNotNegative : Type 0
-FormKeepsNotNegative = (xs : List Axis) (f : List ℕ → Pair) → All Between xs →
+FormKeepsNotNegative = (xs : List Axis) (f : List ℕ → Pair) → AllByRecursion Between xs →
     ((ks : List ℕ) → Index (degrees xs) ks → NotNegative (f ks)) → NotNegative (form pairs xs f)
 
 abbrev pub FormAtCorner : Type 0
 FormAtCorner = (xs : List Axis) (es : List Half) (f : List ℕ → Pair) → AtCorner xs es → form pairs xs f ≡ multiple (corner_weight xs es) (f (corner_index (degrees xs) es))
 
 abbrev pub CornerShowsSign : Type 0
-CornerShowsSign = (xs : List Axis) (es : List Half) (f : List ℕ → Pair) → All Between xs → AtCorner xs es → sign_of (form pairs xs f) ≡ sign_of (f (corner_index (degrees xs) es))
+CornerShowsSign = (xs : List Axis) (es : List Half) (f : List ℕ → Pair) → AllByRecursion Between xs → AtCorner xs es → sign_of (form pairs xs f) ≡ sign_of (f (corner_index (degrees xs) es))
 
 abbrev pub CornerHasIndex : Type 0
 CornerHasIndex = (ns : List ℕ) (es : List Half) → Index ns (corner_index ns es)

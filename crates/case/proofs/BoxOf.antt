@@ -1,10 +1,10 @@
 -- The box of a record: its halvings, its places and its halves.
-use Rattle.std.proofs.Common.{◌≡◌, ℕ, zero, suc, ◌+◌, ◌^◌, ◌<◌, ◌≤◌, List, [], ◌∷◌, map, length, get_or, take, set, refl, ap, add-one, arith}
-use Rattle.std.specs.List.{AllByRecursion as All}
+use Rattle.std.proofs.Common.{◌≡◌, ℕ, zero, suc, ◌+◌, ◌^◌, ◌<◌, ◌≤◌, List, [], ◌∷◌, length, get_or, take, set, refl, ap, add-one, arith}
+use Rattle.std.specs.List.{AllByRecursion}
 use Rattle.algebra.specs.Form.{change}
 use Rattle.algebra.specs.declared.half.Half.{Half}
 use Rattle.ticket.specs.Sizes.{rest}
-use Rattle.patch.specs.Box.{Box, Placed, half_place, half_part, half_box}
+use Rattle.patch.specs.Box.{Placed, half_place, half_part, half_box}
 use Rattle.search.specs.Search.{level, halvings_of}
 use Rattle.case.specs.Records.{part_of, parts, box_of, half_record}
 use Rattle.case.specs.declared.record.Record.{Record}
@@ -24,7 +24,7 @@ halvings_within_level zero hs qs j l = absurd (omega arith)
 halvings_within_level (suc m) hs qs zero l = omega arith
 halvings_within_level (suc m) hs qs (suc j) l = omega (arith, halvings_within_level m (rest hs) (rest qs) j (omega arith), nth_of_rest hs j)
 
-pub placed_at : (m : ℕ) (hs qs : List ℕ) → All Placed (parts m hs qs) → (j : ℕ) → j < m → get_or qs j 0 < 2 ^ get_or hs j 0
+pub placed_at : (m : ℕ) (hs qs : List ℕ) → AllByRecursion Placed (parts m hs qs) → (j : ℕ) → j < m → get_or qs j 0 < 2 ^ get_or hs j 0
 placed_at zero hs qs p j l = absurd (omega arith)
 placed_at (suc m) hs qs p zero l = p.0
 placed_at (suc m) hs qs p (suc j) l = omega (arith, placed_at m (rest hs) (rest qs) p.1 j (omega arith), nth_of_rest qs j, ap (λ n. 2 ^ n) (nth_of_rest hs j))

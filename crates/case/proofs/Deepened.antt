@@ -1,5 +1,5 @@
 -- A search that starts anew at a greater depth.
-use Rattle.std.proofs.Common.{◌≡◌, ℕ, suc, ◌+◌, ◌*◌, ◌<◌, ◌≤◌, Bool, true, false, cond, not, ◌&&◌, ltb, leb, List, [], ◌∷◌, map, length, take, is_some, None, sym, refl, ap, ◌∙◌, mul-le-mul_right, one-mul, arith}
+use Rattle.std.proofs.Common.{◌≡◌, ℕ, ◌+◌, ◌≤◌, Bool, true, false, cond, not, ◌&&◌, ltb, leb, List, map, take, is_some, None, refl, ap, ◌∙◌, mul-le-mul_right, one-mul, arith}
 use Rattle.std.proofs.lemmas.List.{take-map}
 use Rattle.std.proofs.lemmas.Bool.{and_parts, leb-true, le-leb}
 use Rattle.algebra.specs.Layout.{numbers}

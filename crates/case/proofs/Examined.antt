@@ -1,7 +1,6 @@
 -- One box of a case is examined: a step of its search.
-use Rattle.std.proofs.Common.{◌≡◌, ℕ, suc, ◌+◌, ◌-◌, ◌*◌, ◌<◌, ◌≤◌, Bool, true, false, ◌&&◌, ltb, leb, List, [], ◌∷◌, map, length, get_or, take, drop, sym, refl, ap, ◌∙◌, subst, ap₂, mul-le-mul_right, suc-mul, mul-le-mul, arith}
+use Rattle.std.proofs.Common.{◌≡◌, ℕ, suc, ◌+◌, ◌-◌, ◌*◌, ◌<◌, ◌≤◌, Bool, true, false, ◌&&◌, leb, List, [], ◌∷◌, map, length, get_or, take, drop, sym, ap, ◌∙◌, subst, mul-le-mul_right, suc-mul, mul-le-mul, arith}
 use lib.Arith.{lt_of_le-ne}
-use lib.ListN.{length-map}
 use Rattle.std.proofs.lemmas.Bool.{leb-true, le-leb, lt-ltb}
 use Rattle.algebra.specs.Pair.{Pair}
 use Rattle.algebra.specs.Layout.{numbers}
@@ -11,13 +10,13 @@ use Rattle.ticket.specs.WellFormed.{Content}
 use Rattle.patch.specs.Halving.{part, may_halve}
 use Rattle.patch.specs.Judging.{all_grow}
 use Rattle.chooser.specs.Choice.{Meaning, Picks}
-use Rattle.search.specs.Search.{Piece, level, Search, Outcome, settled, broken, too_deep, too_large, examine, step_over, step, may_halve as may_be_halved, axis_of}
+use Rattle.search.specs.Search.{Piece, level, Search, Outcome, settled, broken, too_deep, too_large, examine, step_over, step, may_halve as may_be_halved}
 use Rattle.search.proofs.Pieces.{axis_is_there}
 use Rattle.patch.specs.Corners.{corner_of}
 use Rattle.case.specs.Records.{box_of, blank}
 use Rattle.case.specs.Held.{held, newest_of}
 use Rattle.case.specs.Judgement.{judgement}
-use Rattle.case.specs.Model.{ticket_of, piece_in, pieces, model, newest_with, newest_start, after_newest, halves, halves_or_aside}
+use Rattle.case.specs.Model.{ticket_of, pieces, model, newest_with, newest_start, after_newest, halves, halves_or_aside}
 use Rattle.case.specs.declared.record.Record.{Record}
 use Rattle.case.specs.declared.case.Case.{Case}
 use Rattle.case.specs.declared.judgement.Judgement.{Judgement}

@@ -1,20 +1,19 @@
 -- What is found out about a box, by the answers to the questions that are asked of it.
-use Rattle.std.proofs.Common.{◌≡◌, ℕ, zero, suc, ◌+◌, ◌^◌, ◌<◌, ◌≤◌, Bool, true, false, cond, eqb, leb, List, [], ◌∷◌, map, length, Some, None, Option, sym, refl, ap, ◌∙◌, arith}
+use Rattle.std.proofs.Common.{◌≡◌, ℕ, zero, suc, ◌+◌, ◌^◌, ◌≤◌, Bool, true, false, cond, eqb, List, map, length, Some, None, Option, sym, refl, ap, ◌∙◌, arith}
 use lib.ListN.{length-map}
 use Rattle.std.specs.List.{range_with_len}
 use Rattle.std.specs.Option.{option_map}
 use Rattle.std.proofs.lemmas.Bool.{le-leb, eqb-false}
-use Rattle.algebra.specs.Form.{other}
 use Rattle.algebra.specs.declared.half.Half.{Half}
 use Rattle.ticket.specs.Sizes.{degrees_of}
 use Rattle.ticket.specs.WellFormed.{Content}
 use Rattle.patch.specs.Box.{box_ends}
-use Rattle.patch.specs.Corners.{rank, corner_of, lowest_broken, Numbered}
+use Rattle.patch.specs.Corners.{rank, corner_of, lowest_broken}
 use Rattle.patch.specs.FirstPatch.{turned}
 use Rattle.patch.specs.Judging.{all_satisfy, corners, first_of, breaks, broken_corner}
 use Rattle.patch.proofs.BoxCorners.{rank_of_corner, corners_are_numbered}
 use Rattle.chooser.specs.Choice.{Meaning}
-use Rattle.search.specs.Search.{Piece, level, is_clear, violation, may_halve, question_of, Outcome, settled, broken, too_deep, too_large, examine, judged, half_of, first_half, second_half}
+use Rattle.search.specs.Search.{Piece, level, is_clear, violation, may_halve, question_of, settled, broken, too_deep, examine, judged, first_half, second_half}
 use Rattle.search.proofs.Keeping.{void}
 use Rattle.case.specs.Judgement.{found, judgement}
 use Rattle.case.specs.Model.{halves, halves_or_aside}

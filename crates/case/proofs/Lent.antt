@@ -1,5 +1,5 @@
 -- What is lent to the questions about the newest box, in the words of the search.
-use Rattle.std.proofs.Common.{◌≡◌, ℕ, zero, suc, ◌-◌, ◌<◌, ◌≤◌, Bool, true, List, [], ◌∷◌, ◌++◌, map, length, take, Option, sym, refl, ap, ◌∙◌, ap₂, arith}
+use Rattle.std.proofs.Common.{◌≡◌, ℕ, ◌-◌, ◌<◌, Bool, true, List, [], ◌∷◌, ◌++◌, map, length, take, Option, sym, refl, ap, ◌∙◌, ap₂, arith}
 use Rattle.algebra.specs.Pair.{Pair}
 use Rattle.ticket.specs.Sizes.{degrees_of}
 use Rattle.ticket.specs.declared.records.Axis.{Axis}

@@ -1,5 +1,5 @@
 -- The pieces that a table and a workspace stand for, and what becomes of them.
-use Rattle.std.proofs.Common.{◌≡◌, ℕ, zero, suc, ◌+◌, ◌-◌, ◌*◌, ◌<◌, ◌≤◌, List, [], ◌∷◌, map, length, get_or, take, drop, Some, Option, sym, refl, ap, ◌∙◌, ap₂, mul-le-mul_right, suc-mul, arith}
+use Rattle.std.proofs.Common.{◌≡◌, ℕ, suc, ◌+◌, ◌-◌, ◌*◌, ◌<◌, ◌≤◌, List, [], ◌∷◌, map, length, get_or, take, drop, Some, sym, refl, ap, ◌∙◌, ap₂, mul-le-mul_right, suc-mul, arith}
 use Rattle.std.proofs.lemmas.List.{take-take, drop-take, take-map, drop-map}
 use Rattle.algebra.specs.Pair.{Pair, pairs}
 use Rattle.algebra.specs.Form.{other}
@@ -7,9 +7,9 @@ use Rattle.algebra.specs.Layout.{flat_half, numbers}
 use Rattle.algebra.specs.declared.half.Half.{Half}
 use Rattle.ticket.specs.Sizes.{rest, degrees_of}
 use Rattle.ticket.specs.WellFormed.{Content}
-use Rattle.patch.specs.Box.{Box, half_box, Coordinate, coordinates}
+use Rattle.patch.specs.Box.{coordinates}
 use Rattle.patch.specs.Halving.{part, Halved}
-use Rattle.search.specs.Search.{Piece, half_of, Search, Outcome, settled, broken, too_deep, too_large, split, counted, after}
+use Rattle.search.specs.Search.{Piece, half_of, Search, Outcome, broken, counted, after}
 use Rattle.case.specs.Records.{box_of, half_record, blank}
 use Rattle.case.specs.Model.{piece_in, pieces, after_newest, SideBySide, halves}
 use Rattle.case.specs.declared.record.Record.{Record}

@@ -1,19 +1,19 @@
 -- What is sound about a case is kept, whatever becomes of its newest box.
-use Rattle.std.proofs.Common.{◌≡◌, ℕ, zero, suc, ◌+◌, ◌-◌, ◌^◌, ◌<◌, ◌≤◌, ◌⊎◌, List, [], ◌∷◌, map, length, get_or, Some, None, Option, sym, refl, ap, ◌∙◌, subst, inl, inr, arith, length-set, pow_mono}
+use Rattle.std.proofs.Common.{◌≡◌, ℕ, suc, ◌+◌, ◌-◌, ◌^◌, ◌<◌, ◌≤◌, ◌⊎◌, List, [], ◌∷◌, map, length, get_or, Some, None, Option, sym, refl, ap, ◌∙◌, subst, inl, inr, arith, length-set, pow_mono}
 use mathlib.Core.Logic.{∥∥₁_elim, ∥∥₁_map}
 use native.Mathlib.Bridge.{le_prop}
 use native.Mathlib.Nat.{ℕ_set}
-use Rattle.std.specs.List.{AllByRecursion as All}
+use Rattle.std.specs.List.{AllByRecursion}
 use Rattle.algebra.specs.Form.{other}
 use Rattle.algebra.specs.declared.half.Half.{Half}
 use Rattle.ticket.specs.Sizes.{rest}
-use Rattle.patch.specs.Box.{Box, Placed, half_box}
-use Rattle.patch.proofs.Box.{half_length, half_is_placed}
+use Rattle.patch.specs.Box.{Placed, half_box}
+use Rattle.patch.proofs.Box.{half_is_placed}
 use Rattle.search.specs.Search.{level}
 use Rattle.search.specs.Courses.{ceiling}
 use Rattle.search.proofs.Bounds.{ceiling_below}
 use Rattle.search.proofs.Keeping.{void}
-use Rattle.search.proofs.Orderly.{full, full_is_ceiling, full_some, Waits, Stacked, cost}
+use Rattle.search.proofs.Orderly.{full, full_is_ceiling, full_some, Waits}
 use Rattle.search.proofs.Pieces.{half_level}
 use Rattle.case.specs.Records.{box_of, half_record, blank}
 use Rattle.case.specs.Sound.{Four, Sound}
@@ -64,7 +64,7 @@ module _ (m d e a b : ℕ) (r : Record) (rs : List Record) (k : Option ℕ) (f :
     half_waits : (h : Half) (older : ℕ) → older ≤ suc (level (box_of m r)) → Waits m d older (box_of m (half_record h j r))
     half_waits h older l = record {
       part_for_each = part_for_each m (half_record h j r).halvings (half_record h j r).places;
-      placed = subst (All Placed) (sym (half_has_box h)) (half_is_placed h j (box_of m r) s.stacked.0.placed);
+      placed = subst (AllByRecursion Placed) (sym (half_has_box h)) (half_is_placed h j (box_of m r) s.stacked.0.placed);
       shallow = omega (arith, half_has_level h);
       deep = omega (arith, half_has_level h);
     }

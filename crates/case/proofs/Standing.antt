@@ -1,5 +1,5 @@
 -- What is known of a case in which a box waits.
-use Rattle.std.proofs.Common.{◌≡◌, ℕ, suc, ◌+◌, ◌-◌, ◌^◌, ◌<◌, ◌≤◌, true, ◌&&◌, leb, List, [], ◌∷◌, length, get_or, Some, sym, refl, ap, ◌∙◌, arith, pow_mono}
+use Rattle.std.proofs.Common.{◌≡◌, ℕ, suc, ◌+◌, ◌^◌, ◌<◌, ◌≤◌, true, ◌&&◌, leb, [], ◌∷◌, length, get_or, Some, arith, pow_mono}
 use Rattle.std.proofs.lemmas.Bool.{and_parts, leb-true}
 use Rattle.algebra.specs.Form.{other}
 use Rattle.algebra.specs.declared.half.Half.{Half}
@@ -7,7 +7,7 @@ use Rattle.ticket.specs.Numbers.{is_depth}
 use Rattle.ticket.specs.Sizes.{rest}
 use Rattle.ticket.specs.WellFormed.{Content, Formed, all, axis_formed, term_formed}
 use Rattle.search.specs.Search.{level}
-use Rattle.case.specs.Records.{box_of, half_record, blank}
+use Rattle.case.specs.Records.{box_of, half_record}
 use Rattle.case.specs.Held.{held, newest_of}
 use Rattle.case.specs.Sound.{Sound}
 use Rattle.case.specs.Model.{ticket_of}

@@ -1,7 +1,7 @@
 -- A case at its start: the whole box waits.
-use Rattle.std.proofs.Common.{◌≡◌, ℕ, ◌+◌, ◌-◌, ◌*◌, ◌<◌, ◌≤◌, List, [], ◌∷◌, length, None, sym, refl, ap, ◌∙◌, subst, inr, zero-mul, arith}
+use Rattle.std.proofs.Common.{◌≡◌, ℕ, ◌≤◌, List, [], ◌∷◌, length, None, sym, refl, ap, ◌∙◌, subst, inr, zero-mul, arith}
 use native.Mathlib.Nat.{sub-zero}
-use Rattle.std.specs.List.{AllByRecursion as All}
+use Rattle.std.specs.List.{AllByRecursion}
 use Rattle.algebra.specs.Pair.{Pair}
 use Rattle.ticket.specs.WellFormed.{Content}
 use Rattle.ticket.specs.declared.records.Axis.{Axis}
@@ -9,8 +9,8 @@ use Rattle.patch.specs.Box.{Placed, whole_box}
 use Rattle.patch.specs.FirstPatch.{turned, first_patch}
 use Rattle.patch.specs.Halving.{part}
 use Rattle.patch.proofs.Box.{whole_is_placed}
-use Rattle.search.specs.Search.{Piece, level, whole, Search, start}
-use Rattle.search.proofs.Orderly.{full, Waits}
+use Rattle.search.specs.Search.{level, whole}
+use Rattle.search.proofs.Orderly.{Waits}
 use Rattle.search.proofs.Pieces.{whole_level}
 use Rattle.case.specs.Records.{box_of, whole_record}
 use Rattle.case.specs.Sound.{Four, Sound}
@@ -33,7 +33,7 @@ module _ (axes : List Axis) (few : length axes ≤ 4) where
   whole_waits : (d : ℕ) → Waits (length axes) d 0 (box_of (length axes) whole_record)
   whole_waits d = record {
     part_for_each = part_for_each (length axes) whole_record.halvings whole_record.places;
-    placed = subst (All Placed) (sym (whole_record_has_whole_box axes few)) (whole_is_placed axes);
+    placed = subst (AllByRecursion Placed) (sym (whole_record_has_whole_box axes few)) (whole_is_placed axes);
     shallow = omega (arith, not_halved);
     deep = omega arith;
   }

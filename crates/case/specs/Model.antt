@@ -1,5 +1,5 @@
 -- The search that a case and its workspace stand for.
-use Rattle.std.specs.Prelude.{◌≡◌, ℕ, ◌+◌, ◌-◌, ◌*◌, Bool, true, false, List, [], ◌∷◌, length, take, Ok, Err, vec_items, Option, Result}
+use Rattle.std.specs.Prelude.{◌≡◌, ℕ, ◌+◌, ◌-◌, ◌*◌, Bool, true, false, List, [], ◌∷◌, length, take, Ok, Err, Option, Result}
 use Rattle.std.specs.Option.{option_map}
 use Rattle.algebra.specs.Pair.{Pair, pairs}
 use Rattle.algebra.specs.Form.{other}

@@ -1,6 +1,6 @@
 -- What always holds of a case.
-use Rattle.std.specs.Prelude.{◌≡◌, ℕ, ◌+◌, ◌≤◌, ◌⊎◌, List, [], ◌∷◌, map, length, None, Option}
-use Rattle.std.specs.List.{AllByRecursion as All}
+use Rattle.std.specs.Prelude.{◌≡◌, ℕ, ◌+◌, ◌≤◌, ◌⊎◌, List, [], map, length, None, Option}
+use Rattle.std.specs.List.{AllByRecursion}
 use Rattle.search.proofs.Orderly.{Waits, Stacked, cost, full}
 use Rattle.case.specs.Records.{box_of}
 use Rattle.case.specs.declared.record.Record.{Record}
@@ -12,7 +12,7 @@ pub record Four (r : Record) : Type 0 where
 
 -- of m axes, at depth d: the waiting records, the newest first, the counts, the corner and the record of its box
 pub record Sound (m d : ℕ) (records : List Record) (examined deep large : ℕ) (corner : Option ℕ) (found : Record) : Type 0 where
-  pub fours : All Four records
+  pub fours : AllByRecursion Four records
   pub stacked : Stacked m d (map (box_of m) records)
   -- what was examined and what the waiting boxes can still cost
   pub within : examined + cost d (map (box_of m) records) ≤ full d

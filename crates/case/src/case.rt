@@ -6,14 +6,13 @@ ghost use Rattle.case.specs.Sound.{Sound};
 
 use crate::record::Record;
 use crate::waiting::Waiting;
-use number::Number;
 use std::marker::PhantomData;
 use ticket::SizedTicket;
 
 // The patches of the waiting boxes stand in a workspace that is lent to each call, in the order of the boxes; here are the boxes
 // themselves and the counts. A failing case has the number of the corner that violates the relation, and the box of that corner.
 #[derive(Drop)]
-pub struct Case<K: Number> {
+pub struct Case<K> {
     pub(crate) ticket: SizedTicket,
     pub(crate) degrees: [u8; 4],
     // How many numbers a patch has.

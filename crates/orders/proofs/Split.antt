@@ -1,6 +1,6 @@
 -- A text split at its first newline.
 use Rattle.std.proofs.Common.{◌≡◌, ℕ, zero, suc, ◌+◌, ◌-◌, ◌<◌, eqb, List, [], ◌∷◌, ◌++◌, length, get_or, take, drop, sym, refl, ap, ◌∙◌, append_assoc, add-one, arith}
-use Rattle.std.specs.List.{flat_map, AllByRecursion as All}
+use Rattle.std.specs.List.{flat_map, AllByRecursion}
 use Rattle.std.proofs.lemmas.List.{drop_all, nil_from_length, take_rest}
 use Rattle.std.proofs.lemmas.Bool.{cond-true, cond-false, eq-eqb, ne_eqb}
 use Rattle.orders.specs.Lines.{longer, lines_of, NoNewline, ended, LinesAreReadBack}
@@ -54,14 +54,14 @@ line_and_end text r h e b =
     ∙ ap (λ (l : List ℕ). text ∷ lines_of l) (sym (take_rest text r ∙ drop_all r text (omega arith)))
 
 -- ---- lines put together
-all_ended : (lines : List (List ℕ)) → All NoNewline lines → lines_of (flat_map ended lines) ≡ lines
+all_ended : (lines : List (List ℕ)) → AllByRecursion NoNewline lines → lines_of (flat_map ended lines) ≡ lines
 all_ended [] h = refl
 all_ended (line ∷ lines) h =
     ap lines_of (append_assoc line (10 ∷ []) (flat_map ended lines))
     ∙ first_ended line (flat_map ended lines) h.0
     ∙ ap (λ (ls : List (List ℕ)). line ∷ ls) (all_ended lines h.1)
 
-ended_then_open : (lines : List (List ℕ)) (c : ℕ) (cs : List ℕ) → All NoNewline lines → NoNewline (c ∷ cs) → lines_of (flat_map ended lines ++ c ∷ cs) ≡ lines ++ (c ∷ cs) ∷ []
+ended_then_open : (lines : List (List ℕ)) (c : ℕ) (cs : List ℕ) → AllByRecursion NoNewline lines → NoNewline (c ∷ cs) → lines_of (flat_map ended lines ++ c ∷ cs) ≡ lines ++ (c ∷ cs) ∷ []
 ended_then_open [] c cs h o = last_open c cs o
 ended_then_open (line ∷ lines) c cs h o =
     ap lines_of (append_assoc (ended line) (flat_map ended lines) (c ∷ cs) ∙ append_assoc line (10 ∷ []) (flat_map ended lines ++ c ∷ cs))

@@ -1,6 +1,6 @@
 -- A point seen from the ends of a box and of its halves; the factor of a box; no point between the ends is lost by halving.
 use Rattle.std.proofs.Common.{◌≡◌, ℕ, zero, suc, ◌*◌, ◌<◌, ◌≤◌, Bool, true, false, ◌&&◌, T, ◌⊎◌, List, [], ◌∷◌, length, get_or, ℤ, pos, ◌+ℤ◌, ◌-ℤ◌, ◌*ℤ◌, ◌≤ℤ◌, ◌<ℤ◌, sym, refl, ap, ◌∙◌, subst, inl, inr, pow-suc, mul-suc, arith}
-use Rattle.std.specs.List.{AllByRecursion as All}
+use Rattle.std.specs.List.{AllByRecursion}
 use Rattle.std.proofs.lemmas.Int.{ints, by_lt_z}
 use Rattle.algebra.specs.Module.{pow}
 use Rattle.algebra.specs.Form.{Axis as Distances, axis, degrees, Between, toward, change}
@@ -109,7 +109,7 @@ common_positive n h = some_left (common n) (at_each 9 (λ n. some (common n)) tt
     some_left zero t = absurd t
     some_left (suc n) t = omega arith
 
-pub factor_positive : (axes : List Axis) (box : Box) → All Sound axes → pos 0 <ℤ factor axes box
+pub factor_positive : (axes : List Axis) (box : Box) → AllByRecursion Sound axes → pos 0 <ℤ factor axes box
 factor_positive [] box h = omega (arith, ints)
 factor_positive (a ∷ more) box h =
     let n : ℕ = a.degree in
@@ -123,7 +123,7 @@ up_to_least : (o : Bool) (x y : ℤ) → UpTo o x y → x ≤ℤ y
 up_to_least true x y h = omega (arith, ints)
 up_to_least false x y h = h
 
-on_axes_between : (axes : List Axis) (us : List ℤ) (w : ℤ) → All Sound axes → pos 0 <ℤ w → OnAxes axes us w → All Between (seen_all axes (whole_box axes) us w)
+on_axes_between : (axes : List Axis) (us : List ℤ) (w : ℤ) → AllByRecursion Sound axes → pos 0 <ℤ w → OnAxes axes us w → AllByRecursion Between (seen_all axes (whole_box axes) us w)
 on_axes_between [] us w s k h = tt
 on_axes_between (a ∷ more) [] w s k h = absurd h
 on_axes_between (a ∷ more) (u ∷ us) w s k h =
@@ -146,7 +146,7 @@ half_between x b =
     (λ h. inr (record { above = omega (arith, ints); below = nonneg-* (pos 2) x.t (omega (arith, ints)) b.below; apart = omega (arith, ints, b.apart) }))
     (λ h. inl (record { above = nonneg-* (pos 2) x.s (omega (arith, ints)) b.above; below = omega (arith, ints); apart = omega (arith, ints, b.apart) }))
 
-halves_between : (axes : List Axis) (box : Box) (j : ℕ) (us : List ℤ) (w : ℤ) → All Between (seen_all axes box us w) → All Between (seen_all axes (half_box Lower j box) us w) ⊎ All Between (seen_all axes (half_box Upper j box) us w)
+halves_between : (axes : List Axis) (box : Box) (j : ℕ) (us : List ℤ) (w : ℤ) → AllByRecursion Between (seen_all axes box us w) → AllByRecursion Between (seen_all axes (half_box Lower j box) us w) ⊎ AllByRecursion Between (seen_all axes (half_box Upper j box) us w)
 halves_between [] box j us w b = inl tt
 halves_between (a ∷ more) [] j us w b = inl b
 halves_between (a ∷ more) (x ∷ box) zero us w b =
@@ -158,7 +158,7 @@ pub halves_cover : (axes : List Axis) (box : Box) (j : ℕ) (p : Point) → Betw
 halves_cover axes box j p b = halves_between axes box j p.numerators (pos p.denominator) b
 
 -- ---- places
-pub whole_is_placed : (axes : List Axis) → All Placed (whole_box axes)
+pub whole_is_placed : (axes : List Axis) → AllByRecursion Placed (whole_box axes)
 whole_is_placed [] = tt
 whole_is_placed (a ∷ more) = (omega arith, whole_is_placed more)
 
@@ -166,7 +166,7 @@ part_is_placed : (h : Half) (x : Part) → Placed x → Placed (half_part h x)
 part_is_placed Lower x p = omega (arith, pow-suc 2 x.halvings)
 part_is_placed Upper x p = omega (arith, pow-suc 2 x.halvings)
 
-pub half_is_placed : (h : Half) (j : ℕ) (box : Box) → All Placed box → All Placed (half_box h j box)
+pub half_is_placed : (h : Half) (j : ℕ) (box : Box) → AllByRecursion Placed box → AllByRecursion Placed (half_box h j box)
 half_is_placed h j [] p = tt
 half_is_placed h zero (x ∷ box) p = (part_is_placed h x p.0, p.1)
 half_is_placed h (suc j) (x ∷ box) p = (p.0, half_is_placed h j box p.1)

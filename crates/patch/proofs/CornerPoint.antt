@@ -2,7 +2,7 @@
 use Rattle.std.proofs.Common.{◌≡◌, ℕ, zero, suc, ◌+◌, ◌-◌, ◌^◌, ◌≤◌, Bool, true, false, not, ◌&&◌, eqb, List, [], ◌∷◌, map, length, get_or, ℤ, pos, ◌+ℤ◌, ◌-ℤ◌, ◌*ℤ◌, ◌≤ℤ◌, ◌<ℤ◌, sym, refl, ap, ◌∙◌, subst, arith, pow_pos}
 use native.Mathlib.Nat.{pow-zero, pow-succ'}
 use lib.IntN.{pos-*ℤ-pos}
-use Rattle.std.specs.List.{AllByRecursion as All}
+use Rattle.std.specs.List.{AllByRecursion}
 use Rattle.std.proofs.lemmas.Int.{ints, by_lt_z}
 use Rattle.std.proofs.lemmas.Bool.{and_parts, eq-eqb, true≢false}
 use Rattle.algebra.specs.Module.{pow}
@@ -118,17 +118,17 @@ end_between Upper x h z = record { above = omega (arith, ints, z, h); below = om
 abbrev all_brought : ℕ → List Coordinate → List ℤ
 all_brought g xs = map (λ x. x.numerator *ℤ pow (pos 2) (g - x.power)) xs
 
-placed_first : (box : Box) → All Placed box → Placed (get_or box 0 entire) × All Placed (rest box)
+placed_first : (box : Box) → AllByRecursion Placed box → Placed (get_or box 0 entire) × AllByRecursion Placed (rest box)
 placed_first [] p = (omega arith, tt)
 placed_first (x ∷ box) p = p
 
 -- what the corner's point is, given the ends that it uses
 record Corner (axes : List Axis) (box : Box) (es : List Half) (us : List ℤ) (w : ℤ) : Type 0 where
   there : AtCorner (seen_all axes box us w) es
-  between : All Between (seen_all axes box us w)
+  between : AllByRecursion Between (seen_all axes box us w)
   on_axes : OnAxes axes us w
 
-corner : (axes : List Axis) (box : Box) (es : List Half) (g : ℕ) → All Sound axes → All Placed box → length es ≡ length axes → corner_inside (box_ends axes box) es ≡ true → greatest (coordinates axes box es) ≤ g →
+corner : (axes : List Axis) (box : Box) (es : List Half) (g : ℕ) → AllByRecursion Sound axes → AllByRecursion Placed box → length es ≡ length axes → corner_inside (box_ends axes box) es ≡ true → greatest (coordinates axes box es) ≤ g →
     Corner axes box es (all_brought g (coordinates axes box es)) (pow (pos 2) g)
 corner [] box [] g s p l c d = record { there = tt; between = tt; on_axes = tt }
 corner [] box (e ∷ es) g s p l c d = absurd (omega (arith, l))
@@ -146,7 +146,7 @@ corner (a ∷ more) box (e ∷ es) g s p l c d =
       on_axes = (on_axis g e a x deep s.0 q.0 inside.0, later.on_axes);
     }
 
-module _ (axes : List Axis) (box : Box) (es : List Half) (sound : All Sound axes) (placed : All Placed box) (l : length es ≡ length axes) (c : corner_inside (box_ends axes box) es ≡ true) where
+module _ (axes : List Axis) (box : Box) (es : List Half) (sound : AllByRecursion Sound axes) (placed : AllByRecursion Placed box) (l : length es ≡ length axes) (c : corner_inside (box_ends axes box) es ≡ true) where
   is_corner : Corner axes box es (corner_point axes box es).numerators (pos (corner_point axes box es).denominator)
   is_corner =
       let g : ℕ = greatest (coordinates axes box es) in

@@ -2,7 +2,7 @@
 use Rattle.std.proofs.Common.{◌≡◌, ℕ, suc, ◌+◌, ◌-◌, ◌≤◌, List, [], ◌∷◌, get_or, ℤ, pos, ◌-ℤ◌, ◌*ℤ◌, sym, refl, ap, ◌∙◌, subst, ap₂, mul-zero, arith}
 use mathlib.Core.Path.{fun_ext}
 use lib.ListN.{length-map}
-use Rattle.std.specs.List.{AllByRecursion as All}
+use Rattle.std.specs.List.{AllByRecursion}
 use Rattle.std.proofs.lemmas.List.FromFn.{get_or-map-range_with_len, length-map-range_with_len}
 use Rattle.algebra.specs.Module.{integers, pow}
 use Rattle.algebra.specs.Bernstein.{eval, of_power}
@@ -71,7 +71,7 @@ module _ (w : ℤ) (v : Pair) where
       ∙ ap₂ (λ y z. multiple (pos (common n) *ℤ pow (pos 2) y *ℤ pow (a.upper -ℤ a.lower) n *ℤ factor more (whole_box more) *ℤ (pow u e *ℤ powers (rest us) es *ℤ z)) v)
       (sym (mul-zero n)) (sym (pow_add w (n - e) left) ∙ ap (pow w) d)
 
-  one_term : (axes : List Axis) (us : List ℤ) (es : List ℕ) → All Sound axes → Fits (degrees_of axes) es → TermIs axes us es
+  one_term : (axes : List Axis) (us : List ℤ) (es : List ℕ) → AllByRecursion Sound axes → Fits (degrees_of axes) es → TermIs axes us es
   one_term [] us es s f =
       let z : 0 ≡ 0 - sum_of es = omega arith in
       ap₂ (λ y n. multiple (pos 1 *ℤ (y *ℤ pow w n)) v) (sym (no_powers us es f)) z
@@ -80,7 +80,7 @@ module _ (w : ℤ) (v : Pair) where
       one_more a more us e es s.0.small (f 0) (fits_sum (degrees_of more) es (λ j. f (suc j))) (one_term more (rest us) es s.1 (λ j. f (suc j)))
 
 -- ---- the sum of the terms
-form_sum : (xs : List Distances) (f : Term → List ℕ → ℤ) (g : Term → ℤ) (ts : List Term) → All (λ t. form pairs xs (λ ks. multiple (f t ks) (pair_of t)) ≡ multiple (g t) (pair_of t)) ts →
+form_sum : (xs : List Distances) (f : Term → List ℕ → ℤ) (g : Term → ℤ) (ts : List Term) → AllByRecursion (λ t. form pairs xs (λ ks. multiple (f t ks) (pair_of t)) ≡ multiple (g t) (pair_of t)) ts →
     form pairs xs (λ ks. sum_over (λ t. f t ks) ts) ≡ sum_over g ts
 form_sum xs f g [] h = linear_nought pairs_laws (form_linear pairs_laws xs)
 form_sum xs f g (t ∷ ts) h = form_plus pairs_laws xs (λ ks. multiple (f t ks) (pair_of t)) (λ ks. sum_over (λ t. f t ks) ts) ∙ ap₂ sum h.0 (form_sum xs f g ts h.1)
@@ -91,11 +91,11 @@ sum_over_times a g (t ∷ ts) =
     ap (sum (multiple (a *ℤ g t) (pair_of t))) (sum_over_times a g ts)
     ∙ linear pairs_laws (a ∷ g t ∷ []) (pair_of t ∷ sum_over g ts ∷ []) ((x₀ ⊗ x₁) ⊡ v₀ ⊞ x₀ ⊡ v₁) (x₀ ⊡ (x₁ ⊡ v₀ ⊞ v₁)) tt
 
-pub all_terms : {P Q : Term → Type 0} → ((t : Term) → P t → Q t) → (ts : List Term) → All P ts → All Q ts
+pub all_terms : {P Q : Term → Type 0} → ((t : Term) → P t → Q t) → (ts : List Term) → AllByRecursion P ts → AllByRecursion Q ts
 all_terms f [] h = tt
 all_terms f (t ∷ ts) h = (f t h.0, all_terms f ts h.1)
 
-module _ (c : Content) (sound : All Sound c.axes) (fit : All (λ t. Fits (degrees_of c.axes) t.exponents) c.terms) where
+module _ (c : Content) (sound : AllByRecursion Sound c.axes) (fit : AllByRecursion (λ t. Fits (degrees_of c.axes) t.exponents) c.terms) where
   abbrev axes : List Axis
   axes = c.axes
 

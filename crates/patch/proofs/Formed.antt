@@ -1,7 +1,7 @@
 -- What a well-formed ticket gives: degrees up to 8, ends that differ, and exponents at most the degrees.
 use Rattle.std.proofs.Common.{◌≡◌, ℕ, zero, suc, ◌+◌, ◌≤◌, Bool, true, ◌&&◌, eqb, leb, List, [], ◌∷◌, map, length, get_or, ◌<ℤ◌, refl, ap, subst, arith}
 use lib.Signed.{lt_z}
-use Rattle.std.specs.List.{AllByRecursion as All}
+use Rattle.std.specs.List.{AllByRecursion}
 use Rattle.std.proofs.lemmas.Int.{ints}
 use Rattle.std.proofs.lemmas.Bool.{and_parts, leb-true}
 use Rattle.ticket.specs.Numbers.{is_degree, is_end, is_depth, fits_four_bytes}
@@ -22,7 +22,7 @@ pub record Sound (a : Axis) : Type 0 where
 abbrev pub Fits : List ℕ → List ℕ → Type 0
 Fits ns es = (j : ℕ) → get_or es j 0 ≤ get_or ns j 0
 
-pub all_passed : {X : Type 0} (test : X → Bool) (P : X → Type 0) → ((x : X) → test x ≡ true → P x) → (xs : List X) → all test xs ≡ true → All P xs
+pub all_passed : {X : Type 0} (test : X → Bool) (P : X → Type 0) → ((x : X) → test x ≡ true → P x) → (xs : List X) → all test xs ≡ true → AllByRecursion P xs
 all_passed test P f [] h = tt
 all_passed test P f (x ∷ xs) h = let p = and_parts (test x) (all test xs) h in (f x p.0, all_passed test P f xs p.1)
 
@@ -67,21 +67,21 @@ module _ (c : Content) (formed : Formed c) where
       let r = and_parts (all axis_formed c.axes) (all (term_formed c.axes) c.terms && is_depth c.depth) q.1 in
       (r.0, (and_parts (all (term_formed c.axes) c.terms) (is_depth c.depth) r.1).0)
 
-  pub axes_sound : All Sound c.axes
+  pub axes_sound : AllByRecursion Sound c.axes
   axes_sound = all_passed axis_formed Sound axis_sound c.axes both_lists.0
 
-  pub terms_fit : All (λ t. Fits (degrees_of c.axes) t.exponents) c.terms
+  pub terms_fit : AllByRecursion (λ t. Fits (degrees_of c.axes) t.exponents) c.terms
   terms_fit = all_passed (term_formed c.axes) (λ t. Fits (degrees_of c.axes) t.exponents) (term_fits c.axes) c.terms both_lists.1
 
-negated_fit : (ns : List ℕ) (ts : List Term) → All (λ t. Fits ns t.exponents) ts → All (λ t. Fits ns t.exponents) (map negated ts)
+negated_fit : (ns : List ℕ) (ts : List Term) → AllByRecursion (λ t. Fits ns t.exponents) ts → AllByRecursion (λ t. Fits ns t.exponents) (map negated ts)
 negated_fit ns [] h = tt
 negated_fit ns (t ∷ ts) h = (h.0, negated_fit ns ts h.1)
 
-turned_fit : (r : Relation) (ns : List ℕ) (ts : List Term) → All (λ t. Fits ns t.exponents) ts → All (λ t. Fits ns t.exponents) (turned_terms r ts)
+turned_fit : (r : Relation) (ns : List ℕ) (ts : List Term) → AllByRecursion (λ t. Fits ns t.exponents) ts → AllByRecursion (λ t. Fits ns t.exponents) (turned_terms r ts)
 turned_fit Greater ns ts h = h
 turned_fit AtLeast ns ts h = h
 turned_fit Less ns ts h = negated_fit ns ts h
 turned_fit AtMost ns ts h = negated_fit ns ts h
 
-pub turned_terms_fit : (c : Content) → Formed c → All (λ t. Fits (degrees_of c.axes) t.exponents) (turned_terms c.relation c.terms)
+pub turned_terms_fit : (c : Content) → Formed c → AllByRecursion (λ t. Fits (degrees_of c.axes) t.exponents) (turned_terms c.relation c.terms)
 turned_terms_fit c formed = turned_fit c.relation (degrees_of c.axes) c.terms (terms_fit c formed)

@@ -1,7 +1,7 @@
 -- A point by other fractions: the value there is a positive multiple, so its sign is the same.
 use Rattle.std.proofs.Common.{◌≡◌, ℕ, ◌+◌, ◌-◌, ◌≤◌, ◌↔◌, List, [], ◌∷◌, map, get_or, ℤ, pos, ◌*ℤ◌, sym, refl, ap, ◌∙◌, ap₂, arith}
 use lib.IntN.{*ℤ-zero}
-use Rattle.std.specs.List.{AllByRecursion as All}
+use Rattle.std.specs.List.{AllByRecursion}
 use Rattle.std.proofs.lemmas.Int.{ints}
 use Rattle.algebra.specs.Module.{pow}
 use Rattle.algebra.specs.Pair.{sum, multiple, sign_of}
@@ -44,7 +44,7 @@ module _ (k : ℤ) where
       ∙ ring (pow k (sum_of es) ∷ powers us es ∷ pow k left ∷ pow w left ∷ []) (x₀ ⊗ x₁ ⊗ (x₂ ⊗ x₃)) (x₀ ⊗ x₂ ⊗ (x₁ ⊗ x₃)) tt
       ∙ ap (λ z. z *ℤ monomial_at ns us w es) (sym (pow_add k (sum_of es) left) ∙ ap (pow k) d)
 
-sum_over_cong : (f g : Term → ℤ) (ts : List Term) → All (λ t. f t ≡ g t) ts → sum_over f ts ≡ sum_over g ts
+sum_over_cong : (f g : Term → ℤ) (ts : List Term) → AllByRecursion (λ t. f t ≡ g t) ts → sum_over f ts ≡ sum_over g ts
 sum_over_cong f g [] h = refl
 sum_over_cong f g (t ∷ ts) h = ap₂ (λ a x. sum (multiple a (pair_of t)) x) h.0 (sum_over_cong f g ts h.1)
 

@@ -1,7 +1,7 @@
 -- What a represented box tells: its halves are represented, a patch that satisfies the relation settles it inside, a corner that breaks it refutes it.
 use Rattle.std.proofs.Common.{◌≡◌, ℕ, zero, suc, ◌<◌, Bool, true, false, cond, not, List, [], ◌∷◌, ◌++◌, map, length, get_or, pos, is_some, Some, None, Option, sym, refl, ap, ◌∙◌, subst, arith}
 use lib.ListN.{length-map}
-use Rattle.std.specs.List.{AllByRecursion as All}
+use Rattle.std.specs.List.{AllByRecursion}
 use Rattle.std.proofs.lemmas.List.FromFn.{length-map-range_with_len}
 use Rattle.std.proofs.lemmas.Bool.{and_parts, true≢false}
 use Rattle.algebra.specs.Module.{pow}
@@ -74,7 +74,7 @@ module _ (c : Content) (box : Box) (b : List Pair) (formed : Formed c) (r : Repr
       every_at test (x ∷ xs) h zero l = (and_parts (test x) (every test xs) h).0
       every_at test (x ∷ xs) h (suc i) l = every_at test xs (and_parts (test x) (every test xs) h).1 i (omega arith)
 
-module _ (c : Content) (box : Box) (b : List Pair) (es : List Half) (formed : Formed c) (r : Represents (turned c) box b) (placed : All Placed box) (l : length es ≡ length c.axes) where
+module _ (c : Content) (box : Box) (b : List Pair) (es : List Half) (formed : Formed c) (r : Represents (turned c) box b) (placed : AllByRecursion Placed box) (l : length es ≡ length c.axes) where
   abbrev corner : Point
   corner = corner_point c.axes box es
 
@@ -94,7 +94,7 @@ module _ (c : Content) (box : Box) (b : List Pair) (es : List Half) (formed : Fo
       }
 
 -- ---- the corner that judging finds
-found : {X : Type 0} (test : X → Bool) (P : X → Type 0) (xs : List X) (y : X) → All P xs → first_of test xs ≡ Some y → (test y ≡ true) × P y
+found : {X : Type 0} (test : X → Bool) (P : X → Type 0) (xs : List X) (y : X) → AllByRecursion P xs → first_of test xs ≡ Some y → (test y ≡ true) × P y
 found test P [] y h e = absurd (true≢false (ap is_some (sym e)))
 found {X} test P (x ∷ xs) y h e = by_test (test x) refl (found test P xs y h.1) e
   where
@@ -106,21 +106,21 @@ found {X} test P (x ∷ xs) y h e = by_test (test x) refl (found test P xs y h.1
     by_test true t later e = let s : x ≡ y = ap known e in (ap test (sym s) ∙ t, subst P s h.0)
     by_test false t later e = later e
 
-all_both : {X : Type 0} (P : X → Type 0) (xs ys : List X) → All P xs → All P ys → All P (xs ++ ys)
+all_both : {X : Type 0} (P : X → Type 0) (xs ys : List X) → AllByRecursion P xs → AllByRecursion P ys → AllByRecursion P (xs ++ ys)
 all_both P [] ys h k = k
 all_both P (x ∷ xs) ys h k = (h.0, all_both P xs ys h.1 k)
 
-one_longer : (m : ℕ) (e : Half) (cs : List (List Half)) → All (λ c. length c ≡ m) cs → All (λ c. length c ≡ suc m) (map (λ c. e ∷ c) cs)
+one_longer : (m : ℕ) (e : Half) (cs : List (List Half)) → AllByRecursion (λ c. length c ≡ m) cs → AllByRecursion (λ c. length c ≡ suc m) (map (λ c. e ∷ c) cs)
 one_longer m e [] h = tt
 one_longer m e (c ∷ cs) h = (ap suc h.0, one_longer m e cs h.1)
 
-corners_length : (m : ℕ) → All (λ c. length c ≡ m) (corners m)
+corners_length : (m : ℕ) → AllByRecursion (λ c. length c ≡ m) (corners m)
 corners_length zero = (refl, tt)
 corners_length (suc m) =
     all_both (λ c. length c ≡ suc m) (map (λ c. Lower ∷ c) (corners m)) (map (λ c. Upper ∷ c) (corners m))
     (one_longer m Lower (corners m) (corners_length m)) (one_longer m Upper (corners m) (corners_length m))
 
-pub found_corner_is_false : (c : Content) (box : Box) (b : List Pair) (es : List Half) → Formed c → Represents (turned c) box b → All Placed box →
+pub found_corner_is_false : (c : Content) (box : Box) (b : List Pair) (es : List Half) → Formed c → Represents (turned c) box b → AllByRecursion Placed box →
     broken_corner (turned c).relation (degrees_of c.axes) (box_ends c.axes box) b ≡ Some es → Refutes (turned c) (corner_point c.axes box es)
 found_corner_is_false c box b es formed r placed e =
     let ns : List ℕ = degrees_of c.axes in

@@ -1,7 +1,7 @@
 -- The coefficient of a monomial as a loop over the axes multiplies it: no product on the way exceeds a word.
 use Rattle.std.proofs.Common.{◌≡◌, ℕ, suc, ◌+◌, ◌*◌, ◌/◌, ◌%◌, ◌^◌, ◌<◌, ◌≤◌, List, [], ◌∷◌, length, get_or, drop, ℤ, pos, ◌*ℤ◌, nat_abs, sym, refl, ap, ◌∙◌, subst, le_trans, le_refl, mod-lt, mul_assoc, mul_comm, mul-le-mul, mul-le-mul_left, mul-pos, one-mul, le-mul_of_pos_right, add-one, arith}
 use native.Mathlib.Nat.{mul-mul-mul_comm, one-le-pow, mul-div_cancel_left}
-use Rattle.std.specs.List.{AllByRecursion as All}
+use Rattle.std.specs.List.{AllByRecursion}
 use Rattle.std.proofs.lemmas.List.{drop_more, drop_all}
 use Rattle.std.proofs.lemmas.Int.{ints}
 use Rattle.algebra.specs.Bernstein.{of_power}
@@ -20,7 +20,7 @@ use Rattle.patch.proofs.Formed.{Sound, Fits, all_passed, axis_sound, exponents_f
 
 -- The factors of these axes are still to come: `product` has those before them, and `left` is a place among the `later` numbers that they have.
 pub record ToCome (axes : List Axis) (es : List ℕ) (whole product : ℤ) (later left : ℕ) : Type 0 where
-  pub sound : All Sound axes
+  pub sound : AllByRecursion Sound axes
   pub fit : Fits (degrees_of axes) es
   pub later_is : later ≡ numbers (degrees_of axes)
   pub inside : left < later
@@ -35,7 +35,7 @@ own_positive a e s =
     let r : 0 < reach a = omega (arith, ints) in
     mul-pos (common_positive a.degree s.small) (one-le-pow e (reach a) r)
 
-sizes_positive : (axes : List Axis) (es : List ℕ) → All Sound axes → 0 < scale axes * power_reach axes es
+sizes_positive : (axes : List Axis) (es : List ℕ) → AllByRecursion Sound axes → 0 < scale axes * power_reach axes es
 sizes_positive [] es s = omega arith
 sizes_positive (a ∷ more) es s =
     let e = get_or es 0 0 in

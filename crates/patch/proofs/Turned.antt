@@ -1,6 +1,6 @@
 -- The turned inequality is the ticket's own, and what all coefficients satisfy, the form satisfies.
 use Rattle.std.proofs.Common.{◌≡◌, ℕ, true, ◌↔◌, List, [], ◌∷◌, map, ℤ, pos, negsuc, sym, refl, ap, ◌∙◌}
-use Rattle.std.specs.List.{AllByRecursion as All}
+use Rattle.std.specs.List.{AllByRecursion}
 use Rattle.std.proofs.lemmas.Bool.{true≢false}
 use Rattle.algebra.specs.Form.{Axis as Distances, degrees, Between, Index, form}
 use Rattle.algebra.specs.Pair.{Pair, pairs, sum, multiple, opposite, sign_of, turned as opposite_sign}
@@ -74,13 +74,13 @@ from_at_least Positive h = refl
 abbrev EachSatisfies : Relation → List Distances → (List ℕ → Pair) → Type 0
 EachSatisfies r xs f = (ks : List ℕ) → Index (degrees xs) ks → satisfies r (sign_of (f ks)) ≡ true
 
-form_greater : (xs : List Distances) (f : List ℕ → Pair) → All Between xs → EachSatisfies Greater xs f → satisfies Greater (sign_of (form pairs xs f)) ≡ true
+form_greater : (xs : List Distances) (f : List ℕ → Pair) → AllByRecursion Between xs → EachSatisfies Greater xs f → satisfies Greater (sign_of (form pairs xs f)) ≡ true
 form_greater xs f b h = ap (satisfies Greater) (form_keeps_positive xs f b (λ ks i. greater_is (sign_of (f ks)) (h ks i)))
 
-form_at_least : (xs : List Distances) (f : List ℕ → Pair) → All Between xs → EachSatisfies AtLeast xs f → satisfies AtLeast (sign_of (form pairs xs f)) ≡ true
+form_at_least : (xs : List Distances) (f : List ℕ → Pair) → AllByRecursion Between xs → EachSatisfies AtLeast xs f → satisfies AtLeast (sign_of (form pairs xs f)) ≡ true
 form_at_least xs f b h = from_at_least (sign_of (form pairs xs f)) (form_keeps_not_negative xs f b (λ ks i. at_least_is (sign_of (f ks)) (h ks i)))
 
-pub form_satisfies : (r : Relation) (xs : List Distances) (f : List ℕ → Pair) → All Between xs → EachSatisfies (turned_relation r) xs f → satisfies (turned_relation r) (sign_of (form pairs xs f)) ≡ true
+pub form_satisfies : (r : Relation) (xs : List Distances) (f : List ℕ → Pair) → AllByRecursion Between xs → EachSatisfies (turned_relation r) xs f → satisfies (turned_relation r) (sign_of (form pairs xs f)) ≡ true
 form_satisfies Greater = form_greater
 form_satisfies AtLeast = form_at_least
 form_satisfies Less = form_greater

@@ -1,6 +1,6 @@
 -- A box: of each axis a part, which repeated halving leaves of it.
 use Rattle.std.specs.Prelude.{ℕ, suc, ◌+◌, ◌-◌, ◌*◌, ◌^◌, ◌<◌, max, not, ◌&&◌, List, [], ◌∷◌, map, ℤ, pos, ◌+ℤ◌, ◌-ℤ◌, ◌*ℤ◌, ◌==◌, slice_index_or}
-use Rattle.std.specs.List.{AllByRecursion as All}
+use Rattle.std.specs.List.{AllByRecursion}
 use Rattle.algebra.specs.Module.{pow}
 use Rattle.algebra.specs.Form.{Axis as Distances, axis, Between, change}
 use Rattle.algebra.specs.declared.half.Half.{Half}
@@ -74,7 +74,7 @@ from_ends axes box p = seen_all axes box p.numerators (pos p.denominator)
 
 -- on each axis the point lies between the ends of its part, which differ
 abbrev pub BetweenEnds : List Axis → Box → Point → Type 0
-BetweenEnds axes box p = All Between (from_ends axes box p)
+BetweenEnds axes box p = AllByRecursion Between (from_ends axes box p)
 
 -- ---- the factor of a box
 -- Π common n · 2^(n · halvings) · (upper - lower)^n

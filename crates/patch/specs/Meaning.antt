@@ -1,7 +1,7 @@
 -- What a patch says of the polynomial: the laws that every verdict rests on. They speak of the values at points alone; a coefficient that is
 -- not a corner's is no value of the polynomial.
 use Rattle.std.specs.Prelude.{◌≡◌, ℕ, ◌<◌, ◌≤◌, true, ◌⊎◌, ◌↔◌, List, length, pos, ◌<ℤ◌, Some}
-use Rattle.std.specs.List.{AllByRecursion as All}
+use Rattle.std.specs.List.{AllByRecursion}
 use Rattle.algebra.specs.Form.{form}
 use Rattle.algebra.specs.Layout.{numbers, patch, flat_half}
 use Rattle.algebra.specs.Pair.{Pair, pairs, multiple}
@@ -46,12 +46,12 @@ pub record Refutes (c : Content) (p : Point) : Type 0 where
 
 -- a corner, which takes an end of each axis, refutes the inequality where it lies in the box and breaks the relation
 abbrev pub BrokenCornerIsFalse : Type 0
-BrokenCornerIsFalse = (c : Content) (box : Box) (b : List Pair) (es : List Half) → Formed c → Represents (turned c) box b → All Placed box → length es ≡ length c.axes →
+BrokenCornerIsFalse = (c : Content) (box : Box) (b : List Pair) (es : List Half) → Formed c → Represents (turned c) box b → AllByRecursion Placed box → length es ≡ length c.axes →
     breaks (turned c).relation (degrees_of c.axes) (box_ends c.axes box) b es ≡ true → Refutes (turned c) (corner_point c.axes box es)
 
 -- so does the corner that judging finds
 abbrev pub FoundCornerIsFalse : Type 0
-FoundCornerIsFalse = (c : Content) (box : Box) (b : List Pair) (es : List Half) → Formed c → Represents (turned c) box b → All Placed box →
+FoundCornerIsFalse = (c : Content) (box : Box) (b : List Pair) (es : List Half) → Formed c → Represents (turned c) box b → AllByRecursion Placed box →
     broken_corner (turned c).relation (degrees_of c.axes) (box_ends c.axes box) b ≡ Some es → Refutes (turned c) (corner_point c.axes box es)
 
 -- ---- the inequality itself
@@ -72,7 +72,7 @@ HalvesCover = (axes : List Axis) (box : Box) (j : ℕ) (p : Point) → BetweenEn
 
 -- every part has a place that there is
 abbrev pub WholeIsPlaced : Type 0
-WholeIsPlaced = (axes : List Axis) → All Placed (whole_box axes)
+WholeIsPlaced = (axes : List Axis) → AllByRecursion Placed (whole_box axes)
 
 abbrev pub HalfIsPlaced : Type 0
-HalfIsPlaced = (h : Half) (j : ℕ) (box : Box) → All Placed box → All Placed (half_box h j box)
+HalfIsPlaced = (h : Half) (j : ℕ) (box : Box) → AllByRecursion Placed box → AllByRecursion Placed (half_box h j box)

@@ -2,7 +2,7 @@
 use Rattle.std.proofs.Common.{◌≡◌, ℕ, zero, suc, ◌+◌, ◌-◌, ◌^◌, ◌<◌, ◌≤◌, ◌⊎◌, List, [], ◌∷◌, map, length, get_or, None, sym, refl, ap, ◌∙◌, subst, inl, inr, pow-suc, add-one, arith}
 use native.Mathlib.Nat.{sub-zero}
 use lib.ListN.{length-map}
-use Rattle.std.specs.List.{AllByRecursion as All}
+use Rattle.std.specs.List.{AllByRecursion}
 use Rattle.algebra.specs.declared.half.Half.{Half}
 use Rattle.ticket.specs.WellFormed.{Content, Formed}
 use Rattle.patch.specs.Box.{Box, Placed, entire, whole_box, half_box}
@@ -37,7 +37,7 @@ full_twice d n h = let e : d - n ≡ suc (d - suc n) = omega arith in rw e
 -- a box that waits before so many older ones was halved at least as often, and no more often than the depth
 pub record Waits (axes d older : ℕ) (box : Box) : Type 0 where
   pub part_for_each : length box ≡ axes
-  pub placed : All Placed box
+  pub placed : AllByRecursion Placed box
   pub shallow : level box ≤ d
   pub deep : older ≤ level box
 
@@ -101,7 +101,7 @@ half_waits : (c : Content) (h : Half) (j m d was older : ℕ) (x y : Piece) → 
 half_waits c h j m d was older x y l e w k o =
     let b : y.box ≡ half_box h j x.box = ap (λ z. z.box) e ∙ half_has_box c h j x in
     let u : level y.box ≡ suc (level x.box) = ap level b ∙ half_level h j x.box (omega (arith, w.part_for_each)) in
-    (record { part_for_each = ap length b ∙ half_length h j x.box ∙ w.part_for_each; placed = subst (All Placed) (sym b) (half_is_placed h j x.box w.placed); shallow = omega arith; deep = omega arith }, u)
+    (record { part_for_each = ap length b ∙ half_length h j x.box ∙ w.part_for_each; placed = subst (AllByRecursion Placed) (sym b) (half_is_placed h j x.box w.placed); shallow = omega arith; deep = omega arith }, u)
 
 module _ (c : Content) (μ : Meaning) (formed : Formed c) (picks : Picks μ) where
   abbrev axes : ℕ
@@ -112,7 +112,7 @@ module _ (c : Content) (μ : Meaning) (formed : Formed c) (picks : Picks μ) whe
       let b : (whole c).box ≡ whole_box c.axes = whole_has_box c in
       let z : level (whole c).box ≡ 0 = ap level b ∙ whole_level c.axes in
       record {
-        stacked = (record { part_for_each = ap length b ∙ length-map c.axes (λ _. entire); placed = subst (All Placed) (sym b) (whole_is_placed c.axes); shallow = omega arith; deep = omega arith }, tt);
+        stacked = (record { part_for_each = ap length b ∙ length-map c.axes (λ _. entire); placed = subst (AllByRecursion Placed) (sym b) (whole_is_placed c.axes); shallow = omega arith; deep = omega arith }, tt);
         within = rw (z, sub-zero) (omega arith);
         aside = omega arith;
         uncornered = inr refl;

@@ -1,7 +1,7 @@
 -- The pieces that come of the whole box by halving along axes: their patches represent the polynomial on their boxes.
 use Rattle.std.proofs.Common.{◌≡◌, ℕ, zero, suc, ◌<◌, ◌≤◌, ◌&&◌, leb, List, [], ◌∷◌, length, refl, arith}
 use lib.ListN.{length-map}
-use Rattle.std.specs.List.{AllByRecursion as All}
+use Rattle.std.specs.List.{AllByRecursion}
 use Rattle.std.proofs.lemmas.Bool.{and_parts, leb-true}
 use Rattle.algebra.specs.declared.half.Half.{Half}
 use Rattle.ticket.specs.Numbers.{is_depth}
@@ -29,7 +29,7 @@ half_has_box c h j x = refl
 -- ---- their patches
 pub record Faithful (c : Content) (x : Piece) : Type 0 where
   pub represents : Represents (turned c) x.box x.patch
-  pub placed : All Placed x.box
+  pub placed : AllByRecursion Placed x.box
 
 pub whole_is_faithful : (c : Content) → Formed c → Faithful c (whole c)
 unfolding whole
@@ -55,7 +55,7 @@ half_level_most h zero (part ∷ box) = omega arith
 half_level_most h (suc j) (part ∷ box) = omega (arith, half_level_most h j box)
 
 -- no axis was halved more often than the box
-pub parts_within_level : (d : ℕ) (box : Box) → level box ≤ d → All (λ part. part.halvings ≤ d) box
+pub parts_within_level : (d : ℕ) (box : Box) → level box ≤ d → AllByRecursion (λ part. part.halvings ≤ d) box
 parts_within_level d [] h = tt
 parts_within_level d (part ∷ box) h = (omega arith, parts_within_level d box (omega arith))
 

@@ -1,7 +1,7 @@
 -- The word of a finished search is decided by the tree of the whole box: all its leaves are settled, or one of its boxes is broken. A deeper
 -- or wider search has such a tree too.
 use Rattle.std.proofs.Common.{◌≡◌, ℕ, suc, ◌+◌, ◌^◌, ◌≤◌, true, leb, ◌⊎◌, List, [], ◌∷◌, pos, Some, None, sym, refl, ap, ◌∙◌, subst, inl, inr, arith}
-use Rattle.std.specs.List.{AllByRecursion as All}
+use Rattle.std.specs.List.{AllByRecursion}
 use Rattle.std.proofs.lemmas.Bool.Decides.{leb_tells}
 use Rattle.std.proofs.lemmas.Bool.{and_parts, and_from}
 use Rattle.algebra.specs.Pair.{Pair, multiple}
@@ -90,7 +90,7 @@ module _ (c : Content) (limit : ℕ) (μ : Meaning) where
   -- ---- from the word to the tree
   -- if all that waits is going to be settled, the whole is
   abbrev Clearing : Search → Type 0
-  Clearing s = s.aside_depth ≡ 0 → s.aside_range ≡ 0 → All (Settled s) s.waiting → Settled s (whole c) ⊎ Failed s
+  Clearing s = s.aside_depth ≡ 0 → s.aside_range ≡ 0 → AllByRecursion (Settled s) s.waiting → Settled s (whole c) ⊎ Failed s
 
   not_failed : (s : Search) (x : Piece) (xs : List Piece) → Settled s (whole c) ⊎ Failed (over s (x ∷ xs)) → Settled s (whole c)
   not_failed s x xs (inl h) = h
@@ -124,7 +124,7 @@ module _ (c : Content) (limit : ℕ) (μ : Meaning) where
     uncornered : s.corner ≡ None
     none_deep : s.aside_depth ≡ 0
     none_large : s.aside_range ≡ 0
-    all_settle : All (Settled s) s.waiting
+    all_settle : AllByRecursion (Settled s) s.waiting
 
   halves_settle : (s : Search) (x y z : Piece) → examine c limit μ s.depth x ≡ split y z → Settled s x → Settled s y × Settled s z
   halves_settle s x y z e (leaf f) = absurd (void (cc))
@@ -185,7 +185,7 @@ module _ (c : Content) (limit : ℕ) (μ : Meaning) where
   clearing_holds : (s : Search) → word s ≡ Holds → Clearing s → Settled s (whole c)
   clearing_holds s e h =
       let w = holds_clears s.waiting s.corner (s.aside_depth + s.aside_range) e in
-      surely w.1 (h (omega (arith, w.2)) (omega (arith, w.2)) (subst (All (Settled s)) (sym w.0) tt))
+      surely w.1 (h (omega (arith, w.2)) (omega (arith, w.2)) (subst (AllByRecursion (Settled s)) (sym w.0) tt))
     where
       surely : s.corner ≡ None → Settled s (whole c) ⊎ Failed s → Settled s (whole c)
       surely f (inl k) = k

@@ -1,6 +1,6 @@
 -- The words mean what they say: a tree whose leaves are settled makes the inequality true everywhere, and a corner that breaks it makes it false.
 use Rattle.std.proofs.Common.{◌≡◌, ℕ, ◌+◌, true, ◌⊎◌, List, ◌∷◌, Some, sym, subst, inl, inr, ⊎_elim}
-use Rattle.std.specs.List.{AllByRecursion as All}
+use Rattle.std.specs.List.{AllByRecursion}
 use Rattle.algebra.specs.Form.{other}
 use Rattle.algebra.specs.declared.half.Half.{Half}
 use Rattle.algebra.specs.declared.half.Half.TheVariants.{Lower, Upper}
@@ -68,13 +68,13 @@ module _ (c : Content) (μ : Meaning) (formed : Formed c) (picks : Picks μ) whe
       record { lies = k.lies; false_there = λ t. k.false_there ((turned_is_same c _).1 t) }
 
   record Shown (s : Search) : Type 0 where
-    faithful : All (Faithful c) s.waiting
+    faithful : AllByRecursion (Faithful c) s.waiting
     refutes : (p : List Coordinate) → s.corner ≡ Some p → Refutes c (point_of p)
 
   keeps_shown : (limit : ℕ) (s : Search) (x : Piece) (xs : List Piece) → Shown (over s (x ∷ xs)) → (o : Outcome) → examine c limit μ s.depth x ≡ o → Shown (after c s x xs o)
   keeps_shown limit s x xs h o e = record { faithful = pieces o e; refutes = corner o e }
     where
-      pieces : (o : Outcome) → examine c limit μ s.depth x ≡ o → All (Faithful c) (after c s x xs o).waiting
+      pieces : (o : Outcome) → examine c limit μ s.depth x ≡ o → AllByRecursion (Faithful c) (after c s x xs o).waiting
       pieces settled e = h.faithful.1
       pieces (broken es) e = tt
       pieces too_deep e = h.faithful.1

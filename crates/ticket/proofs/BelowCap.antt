@@ -1,7 +1,7 @@
 -- The sizes of a sized ticket are below the cap, so they are the sizes themselves.
 use Rattle.std.proofs.Common.{◌≡◌, ℕ, zero, suc, ◌^◌, ◌<◌, ◌≤◌, true, ◌&&◌, leb, List, [], ◌∷◌, length, get_or, mul-le-mul, arith, lit≤}
 use native.Mathlib.Nat.{pow-le-pow_right, pow-succ', pow-zero}
-use Rattle.std.specs.List.{AllByRecursion as All}
+use Rattle.std.specs.List.{AllByRecursion}
 use Rattle.std.proofs.lemmas.Bool.{and_parts, leb-true}
 use Rattle.number.specs.Limits.{word}
 use Rattle.ticket.specs.Capped.{capped}
@@ -29,7 +29,7 @@ module _ (axes : List Axis) (terms : List Term) (n : ℕ) (small : is_sized axes
   drift_is e = below_cap n (drift_size axes terms) e (omega (arith, leb-true (drift_size axes terms) word both.1))
 
 -- ---- the scale of four axes is at most 280^4
-entry_below : (xs : List ℕ) (n : ℕ) → All (λ x. x ≤ 280) xs → get_or xs n 1 ≤ 280
+entry_below : (xs : List ℕ) (n : ℕ) → AllByRecursion (λ x. x ≤ 280) xs → get_or xs n 1 ≤ 280
 entry_below [] n h = omega arith
 entry_below (x ∷ xs) zero h = h.0
 entry_below (x ∷ xs) (suc n) h = entry_below xs n h.1

@@ -9,30 +9,30 @@ use Rattle.orders.proofs.order.call.Goals as goal
 pub returns-in-empty : goal.returns-in-empty
 returns-in-empty c = record { meaning = search rules; exact = orders_are_exact; back = orders_are_read_back }
 
-pub returns-in_err-number : goal.returns-in_err-number
-returns-in_err-number c = record {
-  meaning = c.from_residual.ensures ∙ numbered Run c.args.line.now c.in_err-number.ensures ∙ letter 114 _ _ _ _ _ c.in-r.is;
+pub returns-in_err-number-in-r : goal.returns-in_err-number-in-r
+returns-in_err-number-in-r c = record {
+  meaning = c.from_residual.ensures ∙ numbered Run c.args.line.now c.in_err-number-in-r.ensures ∙ letter 114 _ _ _ _ _ c.in-r.is;
   exact = orders_are_exact;
   back = orders_are_read_back;
 }
 
-pub returns-in_err-number-2 : goal.returns-in_err-number-2
-returns-in_err-number-2 c = record {
-  meaning = c.from_residual-in_err-number-2.ensures ∙ numbered Deepen c.args.line.now c.in_err-number-2.ensures ∙ letter 100 _ _ _ _ _ c.in-d.is;
+pub returns-in_err-number-in-d : goal.returns-in_err-number-in-d
+returns-in_err-number-in-d c = record {
+  meaning = c.from_residual-in_err-number-in-d.ensures ∙ numbered Deepen c.args.line.now c.in_err-number-in-d.ensures ∙ letter 100 _ _ _ _ _ c.in-d.is;
   exact = orders_are_exact;
   back = orders_are_read_back;
 }
 
-pub returns-in_ok-number : goal.returns-in_ok-number
-returns-in_ok-number c = record {
-  meaning = numbered Run c.args.line.now c.in_ok-number.ensures ∙ letter 114 _ _ _ _ _ c.in-r.is;
+pub returns-in_ok-number-in-r : goal.returns-in_ok-number-in-r
+returns-in_ok-number-in-r c = record {
+  meaning = numbered Run c.args.line.now c.in_ok-number-in-r.ensures ∙ letter 114 _ _ _ _ _ c.in-r.is;
   exact = orders_are_exact;
   back = orders_are_read_back;
 }
 
-pub returns-in_ok-number-2 : goal.returns-in_ok-number-2
-returns-in_ok-number-2 c = record {
-  meaning = numbered Deepen c.args.line.now c.in_ok-number-2.ensures ∙ letter 100 _ _ _ _ _ c.in-d.is;
+pub returns-in_ok-number-in-d : goal.returns-in_ok-number-in-d
+returns-in_ok-number-in-d c = record {
+  meaning = numbered Deepen c.args.line.now c.in_ok-number-in-d.ensures ∙ letter 100 _ _ _ _ _ c.in-d.is;
   exact = orders_are_exact;
   back = orders_are_read_back;
 }

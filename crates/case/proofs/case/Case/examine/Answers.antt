@@ -1,4 +1,4 @@
-use Rattle.std.proofs.Common.{◌≡◌, ◌+◌, ◌-◌, ◌*◌, ◌<◌, ◌≤◌, map, length, refl, arith, rules}
+use Rattle.std.proofs.Common.{◌+◌, ◌-◌, ◌*◌, ◌≤◌, map, length, refl, arith, rules}
 use Rattle.case.specs.Model.{newest_start}
 use Rattle.case.proofs.Examined.{patch_lent, size_small, start_is_small, newest_ends_within, clear_steps, broken_steps, deep_steps, axis_inside, still_shallow, undecided_steps}
 use Rattle.case.proofs.case.Case.examine.Goals as goal

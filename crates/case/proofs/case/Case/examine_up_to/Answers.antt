@@ -1,4 +1,4 @@
-use Rattle.std.proofs.Common.{◌≡◌, ℕ, ◌+◌, ◌-◌, ◌*◌, ◌<◌, ◌≤◌, map, length, sym, refl, ap, ◌∙◌, subst, ap₂, arith}
+use Rattle.std.proofs.Common.{◌≡◌, ◌+◌, ◌-◌, ◌*◌, ◌<◌, ◌≤◌, map, length, sym, ap, ◌∙◌, subst, ap₂, arith}
 use Rattle.ticket.specs.Sizes.{patch_count}
 use Rattle.search.specs.Search.{step, steps}
 use Rattle.search.proofs.Steps.{idle_steps}

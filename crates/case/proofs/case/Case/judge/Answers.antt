@@ -1,4 +1,4 @@
-use Rattle.std.proofs.Common.{◌≡◌, ℕ, ◌<◌, ◌≤◌, true, false, eqb, map, length, get_or, sym, refl, ap, ◌∙◌, subst, ap₂, arith}
+use Rattle.std.proofs.Common.{◌≡◌, ◌≤◌, true, false, eqb, map, length, get_or, sym, refl, ap, ◌∙◌, subst, ap₂, arith}
 use Rattle.std.proofs.lemmas.Bool.{eq-eqb, ne_eqb}
 use Rattle.ticket.specs.Sizes.{degrees_of}
 use Rattle.patch.specs.FirstPatch.{turned}
@@ -17,7 +17,7 @@ pub returns-then-all_satisfy : goal.returns-then-all_satisfy
 returns-then-all_satisfy g c =
     let k = c.args.self.now in
     let b = map g.K.Number.means c.args.patch.now in
-    let e : all_satisfy (turned (ticket_of k)).relation b ≡ true = sym (ap (λ r. all_satisfy r b) c.turned_relation.ensures) ∙ sym c.all_satisfy.ensures.answer ∙ c.if-all_satisfy.true in
+    let e : all_satisfy (turned (ticket_of k)).relation b ≡ true = sym (ap (λ r. all_satisfy r b) c.turned-relation.ensures) ∙ sym c.all_satisfy.ensures.answer ∙ c.if-all_satisfy.true in
     record { answer = clear_is_found (ticket_of k) (g.C.Chooser.meaning c.args.chooser.now) k.depth (newest_with k b) e; same = refl }
 
 pub top-newest-requires : goal.top-newest-requires
@@ -39,16 +39,16 @@ pub returns-in-Some : goal.returns-in-Some
 returns-in-Some g c =
     let k = c.args.self.now in
     let b = map g.K.Number.means c.args.patch.now in
-    let u : all_satisfy (turned (ticket_of k)).relation b ≡ false = sym (ap (λ r. all_satisfy r b) c.turned_relation.ensures) ∙ sym c.all_satisfy.ensures.answer ∙ c.if-all_satisfy.false in
-    let l = lowest_lent k c.as_slice-axes.result.now c.as_slice-axes.ensures.value c.requires.waits c.top-newest.result c.top-newest.ensures c.turned_relation.result c.box_ends-ends.result b c.broken_corner.result c.turned_relation.ensures c.box_ends-ends.ensures c.broken_corner.ensures.answer in
+    let u : all_satisfy (turned (ticket_of k)).relation b ≡ false = sym (ap (λ r. all_satisfy r b) c.turned-relation.ensures) ∙ sym c.all_satisfy.ensures.answer ∙ c.if-all_satisfy.false in
+    let l = lowest_lent k c.as_slice-axes.result.now c.as_slice-axes.ensures.value c.requires.waits c.top-newest.result c.top-newest.ensures c.turned-relation.result c.box_ends-ends.result b c.broken_corner.result c.turned-relation.ensures c.box_ends-ends.ensures c.broken_corner.ensures.answer in
     record { answer = violation_is_found (ticket_of k) (g.C.Chooser.meaning c.args.chooser.now) k.depth (newest_with k b) (few_axes k) u c.broken_corner.result l c.in-Some.corner c.in-Some.is; same = refl }
 
 pub returns-then-level-self : goal.returns-then-level-self
 returns-then-level-self g c =
     let k = c.args.self.now in
     let b = map g.K.Number.means c.args.patch.now in
-    let u : all_satisfy (turned (ticket_of k)).relation b ≡ false = sym (ap (λ r. all_satisfy r b) c.turned_relation.ensures) ∙ sym c.all_satisfy.ensures.answer ∙ c.if-all_satisfy.false in
-    let l = lowest_lent k c.as_slice-axes.result.now c.as_slice-axes.ensures.value c.requires.waits c.top-newest.result c.top-newest.ensures c.turned_relation.result c.box_ends-ends.result b c.broken_corner.result c.turned_relation.ensures c.box_ends-ends.ensures c.broken_corner.ensures.answer in
+    let u : all_satisfy (turned (ticket_of k)).relation b ≡ false = sym (ap (λ r. all_satisfy r b) c.turned-relation.ensures) ∙ sym c.all_satisfy.ensures.answer ∙ c.if-all_satisfy.false in
+    let l = lowest_lent k c.as_slice-axes.result.now c.as_slice-axes.ensures.value c.requires.waits c.top-newest.result c.top-newest.ensures c.turned-relation.result c.box_ends-ends.result b c.broken_corner.result c.turned-relation.ensures c.box_ends-ends.ensures c.broken_corner.ensures.answer in
     let v : level (box_of (axes k) (newest_of k.waiting)) ≡ k.depth = sym (level_lent k c.as_slice-axes.result.now c.as_slice-axes.ensures.value c.requires.waits c.top-newest.result c.top-newest.ensures) ∙ sym c.level-level.ensures ∙ c.if-level-self.true in
     record { answer = depth_is_found (ticket_of k) (g.C.Chooser.meaning c.args.chooser.now) k.depth (newest_with k b) (few_axes k) u c.broken_corner.result l c.in-None.is (eq-eqb _ _ v); same = refl }
 
@@ -59,8 +59,8 @@ returns g c =
     let b = map g.K.Number.means c.args.patch.now in
     let lent = c.as_slice-axes.result.now in
     let all = c.as_slice-axes.ensures.value in
-    let u : all_satisfy (turned (ticket_of k)).relation b ≡ false = sym (ap (λ r. all_satisfy r b) c.turned_relation.ensures) ∙ sym c.all_satisfy.ensures.answer ∙ c.if-all_satisfy.false in
-    let l = lowest_lent k lent all c.requires.waits c.top-newest.result c.top-newest.ensures c.turned_relation.result c.box_ends-ends.result b c.broken_corner.result c.turned_relation.ensures c.box_ends-ends.ensures c.broken_corner.ensures.answer in
+    let u : all_satisfy (turned (ticket_of k)).relation b ≡ false = sym (ap (λ r. all_satisfy r b) c.turned-relation.ensures) ∙ sym c.all_satisfy.ensures.answer ∙ c.if-all_satisfy.false in
+    let l = lowest_lent k lent all c.requires.waits c.top-newest.result c.top-newest.ensures c.turned-relation.result c.box_ends-ends.result b c.broken_corner.result c.turned-relation.ensures c.box_ends-ends.ensures c.broken_corner.ensures.answer in
     let v : c.level-level.result ≡ level (box_of (axes k) (newest_of k.waiting)) = c.level-level.ensures ∙ level_lent k lent all c.requires.waits c.top-newest.result c.top-newest.ensures in
     let deeper : eqb (level (box_of (axes k) (newest_of k.waiting))) k.depth ≡ false = ne_eqb _ _ (λ e. c.if-level-self.false (v ∙ e)) in
     let a =

@@ -15,7 +15,7 @@ overflow_add-self g c = let h : c.args.self.now.examined + 1 < 2 ^ 32 = examined
 pub invariant_of-self : goal.invariant_of-self
 invariant_of-self g c =
     let k = c.args.self.now in
-    (k.shaped, (k.sized, (k.bounded, (refuted_sound k c.requires c.clear.new.self c.args.corner c.top-self.result c.top-self.ensures c.clear.ensures, tt))))
+    record { shaped = k.shaped; sized = k.sized; bounded = k.bounded; sound = refuted_sound k c.requires c.clear.new.self c.args.corner c.top-self.result c.top-self.ensures c.clear.ensures }
 
 pub returns : goal.returns
 returns g c =

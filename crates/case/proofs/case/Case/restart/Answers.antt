@@ -1,4 +1,4 @@
-use Rattle.std.proofs.Common.{◌≡◌, ◌<◌, List, [], ◌∷◌, length, None, refl, ap, ◌∙◌, arith, rules}
+use Rattle.std.proofs.Common.{◌≡◌, List, [], ◌∷◌, length, None, refl, ap, ◌∙◌, arith}
 use Rattle.search.specs.Search.{Piece, Search}
 use Rattle.case.specs.Records.{whole_record}
 use Rattle.case.specs.Held.{held}
@@ -17,7 +17,7 @@ pub invariant_of-self : goal.invariant_of-self
 invariant_of-self g c =
     let k = c.args.self.now in
     let e : held c.push.new.self ≡ whole_record ∷ [] = c.push.ensures ∙ ap (λ rs. whole_record ∷ rs) c.clear.ensures in
-    (k.shaped, (k.sized, (c.requires, (start_is_sound (ticket_of k).axes (few_axes k) c.args.depth (held c.push.new.self) e, tt))))
+    record { shaped = k.shaped; sized = k.sized; bounded = c.requires; sound = start_is_sound (ticket_of k).axes (few_axes k) c.args.depth (held c.push.new.self) e }
 
 pub returns : goal.returns
 returns g c =

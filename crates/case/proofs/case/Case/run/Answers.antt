@@ -1,4 +1,4 @@
-use Rattle.std.proofs.Common.{◌≡◌, ◌+◌, ◌≤◌, map, length, ap, ◌∙◌, arith}
+use Rattle.std.proofs.Common.{map, length, ap, arith}
 use Rattle.search.proofs.Bounds.{steps_same_depth}
 use Rattle.search.proofs.Replies.{run_examines}
 use Rattle.search.specs.Courses.{ceiling}

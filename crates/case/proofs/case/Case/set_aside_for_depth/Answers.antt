@@ -15,7 +15,7 @@ overflow_add-self-2 g c = let h : c.args.self.now.aside_depth + 1 < 2 ^ 32 = asi
 pub invariant_of-self : goal.invariant_of-self
 invariant_of-self g c =
     let k = c.args.self.now in
-    (k.shaped, (k.sized, (k.bounded, (left_sound k c.requires c.pop.new.self (k.aside_depth + 1) k.aside_range c.pop.ensures (omega arith), tt))))
+    record { shaped = k.shaped; sized = k.sized; bounded = k.bounded; sound = left_sound k c.requires c.pop.new.self (k.aside_depth + 1) k.aside_range c.pop.ensures (omega arith) }
 
 pub returns : goal.returns
 returns g c =

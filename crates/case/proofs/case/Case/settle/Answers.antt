@@ -12,7 +12,7 @@ overflow_add-self g c = let h : c.args.self.now.examined + 1 < 2 ^ 32 = examined
 pub invariant_of-self : goal.invariant_of-self
 invariant_of-self g c =
     let k = c.args.self.now in
-    (k.shaped, (k.sized, (k.bounded, (left_sound k c.requires c.pop.new.self k.aside_depth k.aside_range c.pop.ensures (omega arith), tt))))
+    record { shaped = k.shaped; sized = k.sized; bounded = k.bounded; sound = left_sound k c.requires c.pop.new.self k.aside_depth k.aside_range c.pop.ensures (omega arith) }
 
 pub returns : goal.returns
 returns g c =

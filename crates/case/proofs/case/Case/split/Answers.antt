@@ -23,7 +23,7 @@ overflow_add-self g c = let h : c.args.self.now.examined + 1 < 2 ^ 32 = examined
 pub invariant_of-self : goal.invariant_of-self
 invariant_of-self g c =
     let k = c.args.self.now in
-    (k.shaped, (k.sized, (k.bounded, (split_sound k c.requires.waits c.halve_top.new.self c.args.axis c.args.first c.requires.inside c.requires.shallow c.halve_top.ensures, tt))))
+    record { shaped = k.shaped; sized = k.sized; bounded = k.bounded; sound = split_sound k c.requires.waits c.halve_top.new.self c.args.axis c.args.first c.requires.inside c.requires.shallow c.halve_top.ensures }
 
 pub returns : goal.returns
 returns g c =

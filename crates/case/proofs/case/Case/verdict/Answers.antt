@@ -1,5 +1,4 @@
 use Rattle.std.proofs.Common.{◌≤◌, sym, ap₂, rules}
-use Rattle.search.specs.declared.verdict.Verdict.{Verdict}
 use Rattle.case.proofs.Told.{few_wait, as_many_wait}
 use Rattle.case.proofs.case.Case.verdict.Goals as goal
 
