@@ -43,8 +43,6 @@ pub trait Number: Copy {
 
 // A number that may grow is within the limit, and a sum may be doubled once less than both its summands: so no sum is refused
 // after growth was granted, in any kind. Code above takes the laws from here.
-pub fn growth_gives_room() -> u8
+pub fn growth_gives_room()
     ensures { GrowthGivesRoom }
-{
-    0
-}
+{}

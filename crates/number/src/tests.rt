@@ -22,31 +22,19 @@ fn doubled<K: Number>(x: K) -> Option<K>
 }
 
 fn plain(value: i64) -> Result<Plain, Fail> {
-    match Plain::make(value, 0) {
-        Some(x) => Ok(x),
-        None => Err(Fail::new("too large")),
-    }
+    Plain::make(value, 0).ok_or_else(|| Fail::new("too large"))
 }
 
 fn drifting(value: i64, drift: i64) -> Result<Drifting, Fail> {
-    match Drifting::make(value, drift) {
-        Some(x) => Ok(x),
-        None => Err(Fail::new("too large")),
-    }
+    Drifting::make(value, drift).ok_or_else(|| Fail::new("too large"))
 }
 
 fn word(x: Option<Plain>) -> Option<i64> {
-    match x {
-        Some(x) => Some(x.value),
-        None => None,
-    }
+    x.map(|x| x.value)
 }
 
 fn words(x: Option<Drifting>) -> Option<(i64, i64)> {
-    match x {
-        Some(x) => Some((x.value, x.drift)),
-        None => None,
-    }
+    x.map(|x| (x.value, x.drift))
 }
 
 fn letter(sign: Sign) -> char {

@@ -125,8 +125,6 @@ pub fn broken_corner<K: Number>(
 }
 
 // Every corner has a number of its own, in the order of their places.
-pub fn corner_laws() -> u8
+pub fn corner_laws()
     ensures { CornersAreNumbered }
-{
-    0
-}
+{}

@@ -1,26 +1,15 @@
 // Halving a patch inside a workspace.
 ghost use Rattle.std.specs.Prelude.{◌≡◌, ℕ, ◌+◌, ◌*◌, ◌<◌, ◌≤◌, true, false, map, length, nat_le};
-ghost use Rattle.algebra.specs.Form.{other as other_half};
 ghost use Rattle.number.specs.Limits.{may_grow};
 ghost use Rattle.patch.specs.Sweeps.{pair_at};
 ghost use Rattle.patch.specs.Halving.{may_halve, Halved, Split};
 ghost use Rattle.patch.specs.Meaning.{HalfRepresents, HalvesCover};
 
 use crate::judging::all_grow;
-use crate::layout::shape;
 use crate::shape::Shape;
 use crate::sweep::halve_patch;
 use algebra::Half;
 use number::Number;
-
-fn other(half: Half) -> Half
-    ensures { result ≡ other_half half }
-{
-    match half {
-        Half::Lower => Half::Upper,
-        Half::Upper => Half::Lower,
-    }
-}
 
 // Whether two patches of a size fit from `start` on. It halves what is left, since twice the size may exceed a machine word.
 fn has_room(length: usize, start: usize, size: usize) -> bool
@@ -41,7 +30,7 @@ fn split<K: Number>(work: &mut [K], start: usize, shape: Shape, first: Half)
     let n = shape.degree as usize;
     let end = start + shape.size;
     work.copy_within(start..end, end);
-    halve_patch(work, start, shape.blocks, n, shape.stride, other(first));
+    halve_patch(work, start, shape.blocks, n, shape.stride, first.other());
     halve_patch(work, end, shape.blocks, n, shape.stride, first);
 }
 
@@ -61,7 +50,7 @@ pub fn halve<K: Number>(
     ensures represents { HalfRepresents }
     ensures covers { HalvesCover }
 {
-    let Some(shape) = shape(degrees, axis) else {
+    let Some(shape) = Shape::along(degrees, axis) else {
         return false;
     };
     if !has_room(work.len(), start, shape.size) {

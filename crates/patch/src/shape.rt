@@ -1,10 +1,34 @@
 // The shape of a patch along one axis.
+ghost use Rattle.std.specs.Prelude.{◌≡◌};
+ghost use Rattle.patch.specs.Shapes.{shaped};
+
+use crate::layout::count;
 
 // A patch is so many blocks, each of degree + 1 rows of `stride` numbers: `size` numbers in all.
-#[derive(Clone, Copy)]
-pub(crate) struct Shape {
-    pub(crate) blocks: usize,
-    pub(crate) degree: u8,
-    pub(crate) stride: usize,
-    pub(crate) size: usize,
+#[derive(Clone, Copy, PartialEq, Eq)]
+pub struct Shape {
+    pub blocks: usize,
+    pub degree: u8,
+    pub stride: usize,
+    pub size: usize,
+}
+
+impl Shape {
+    // The shape along an axis, or none if there is no such axis or the patch is larger than a machine word tells.
+    pub fn along(degrees: &[u8], axis: usize) -> Option<Shape>
+        ensures { result ≡ shaped degrees.now axis }
+    {
+        if axis >= degrees.len() {
+            return None;
+        }
+        let size = count(degrees)?;
+        let blocks = count(&degrees[0..axis])?;
+        let stride = count(&degrees[axis + 1..degrees.len()])?;
+        Some(Shape {
+            blocks,
+            degree: degrees[axis],
+            stride,
+            size,
+        })
+    }
 }

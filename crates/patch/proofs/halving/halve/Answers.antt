@@ -20,7 +20,7 @@ returns-in_default g c =
     let work = c.args.work.now in
     let len : length work < 2 ^ 64 = search rules in
     record {
-      answer = no_shape m.limit c.args.degrees.now c.args.axis c.args.start (map m.means work) (omega (arith, length-map work m.means)) (of_no_shape c.args.degrees.now c.args.axis (sym c.in_default.is ∙ c.shape.ensures));
+      answer = no_shape m.limit c.args.degrees.now c.args.axis c.args.start (map m.means work) (omega (arith, length-map work m.means)) (of_no_shape c.args.degrees.now c.args.axis (sym c.in_default.is ∙ c.along.ensures));
       halved = not_both;
       refused = λ _. search rules;
       represents = half_represents;
@@ -31,7 +31,7 @@ pub returns-then-not-has_room : goal.returns-then-not-has_room
 returns-then-not-has_room g c =
     let m = g.K.Number in
     let ns = c.args.degrees.now in
-    let s = of_shape ns c.args.axis c.in-Some.shape (sym c.in-Some.is ∙ c.shape.ensures) in
+    let s = of_shape ns c.args.axis c.in-Some.shape (sym c.in-Some.is ∙ c.along.ensures) in
     record {
       answer = no_room m.limit ns c.args.axis c.args.start (map m.means c.args.work.now) s.0 (room_is m.means ns c.args.axis c.args.start c.args.work.now c.in-Some.shape s.2 c.has_room.result c.has_room.ensures ∙ c.if-not-has_room.true);
       halved = not_both;
@@ -47,7 +47,7 @@ returns-then-not-all_grow g c =
     let j = c.args.axis in
     let start = c.args.start in
     let work = c.args.work.now in
-    let s = of_shape ns j c.in-Some.shape (sym c.in-Some.is ∙ c.shape.ensures) in
+    let s = of_shape ns j c.in-Some.shape (sym c.in-Some.is ∙ c.along.ensures) in
     let grown = growth_is m.means ns j start work c.in-Some.shape s.2 m.limit c.all_grow.result c.all_grow.ensures in
     record {
       answer = sym (grown ∙ c.if-not-all_grow.true) ∙ by_growth m.limit ns j start (map m.means work) s.0 (room_is m.means ns j start work c.in-Some.shape s.2 c.has_room.result c.has_room.ensures ∙ c.if-not-has_room.false);
@@ -65,7 +65,7 @@ split-requires g c =
     let start = c.args.start in
     let work = c.args.work.now in
     let shape = c.in-Some.shape in
-    let s = of_shape ns j shape (sym c.in-Some.is ∙ c.shape.ensures) in
+    let s = of_shape ns j shape (sym c.in-Some.is ∙ c.along.ensures) in
     let fits = leb-true (start + (shape.size + shape.size)) (length work) (sym c.has_room.ensures ∙ c.if-not-has_room.false) in
     let len = length-map work m.means in
     let size = ap (λ s. s.size) s.2 in
@@ -86,7 +86,7 @@ returns g c =
     let start = c.args.start in
     let work = c.args.work.now in
     let shape = c.in-Some.shape in
-    let s = of_shape ns j shape (sym c.in-Some.is ∙ c.shape.ensures) in
+    let s = of_shape ns j shape (sym c.in-Some.is ∙ c.along.ensures) in
     let fits = leb-true (start + (shape.size + shape.size)) (length work) (sym c.has_room.ensures ∙ c.if-not-has_room.false) in
     let old = length-map work m.means in
     let new = length-map c.split.new.work m.means in

@@ -1,6 +1,6 @@
 use Rattle.std.proofs.Common.{◌+◌, ◌-◌, length, take, drop, ◌∙◌, arith}
 use Rattle.patch.proofs.Counting.{blocks_below, stride_below, front_is, back_is, of_count, of_no_count, shaped_is}
-use Rattle.patch.proofs.layout.shape.Goals as goal
+use Rattle.patch.proofs.shape.Shape.along.Goals as goal
 
 -- the parts of a patch whose size a word holds are held too
 pub returns-in_err-blocks : goal.returns-in_err-blocks
