@@ -1,4 +1,5 @@
 pub mod Integers
+pub mod Variables
 pub mod Ring
 pub mod Powers
 pub mod Module

@@ -4,6 +4,7 @@
 use Rattle.std.proofs.Common.{◌≡◌, ℕ, zero, suc, Bool, true, ◌&&◌, T, List, [], ◌∷◌, ℤ, pos, negsuc, ◌+ℤ◌, ◌*ℤ◌, sym, refl, ap, ◌∙◌, ap₂}
 use lib.IntN.{*ℤ-zero}
 use Rattle.algebra.specs.Module.{Ops}
+use Rattle.algebra.proofs.Variables.{head, tail, at}
 use Rattle.algebra.proofs.Ring.{Expr, con, val, Poly, constant, empty, poly_val, add, mul, normal, vanishes, add_is, mul_is, normal_is, vanishes_is, both}
 
 pub record Module {V : Type 0} (O : Ops V) : Type 0 where
@@ -54,27 +55,15 @@ module _ {V : Type 0} {O : Ops V} (M : Module O) where
   open O use {nought, plus, times}
   open M use {plus_assoc, plus_comm, plus_nought, times_plus, plus_times, times_times, one_times, zero_times}
 
-  abbrev pub head : List V → V
-  head [] = nought
-  head (x ∷ xs) = x
-
-  abbrev pub tail : List V → List V
-  tail [] = []
-  tail (x ∷ xs) = xs
-
-  abbrev pub at : ℕ → List V → V
-  at zero σ = head σ
-  at (suc i) σ = at i (tail σ)
-
   abbrev pub lin_val : List ℤ → List V → Lin → V
-  lin_val ρ σ (vector i) = at i σ
+  lin_val ρ σ (vector i) = at nought i σ
   lin_val ρ σ none_of = nought
   lin_val ρ σ (a ⊞ b) = plus (lin_val ρ σ a) (lin_val ρ σ b)
   lin_val ρ σ (e ⊡ a) = times (val ρ e) (lin_val ρ σ a)
 
   abbrev combination : List ℤ → List V → List Poly → V
   combination ρ σ [] = nought
-  combination ρ σ (p ∷ ps) = plus (times (poly_val ρ p) (head σ)) (combination ρ (tail σ) ps)
+  combination ρ σ (p ∷ ps) = plus (times (poly_val ρ p) (head nought σ)) (combination ρ (tail σ) ps)
 
   pub nought_plus : (x : V) → plus nought x ≡ x
   nought_plus x = plus_comm nought x ∙ plus_nought x
@@ -89,18 +78,18 @@ module _ {V : Type 0} {O : Ops V} (M : Module O) where
   add_all_is ρ σ [] qs = sym (nought_plus (combination ρ σ qs))
   add_all_is ρ σ (p ∷ ps) [] = sym (plus_nought _)
   add_all_is ρ σ (p ∷ ps) (q ∷ qs) =
-      ap₂ plus (ap (λ z. times z (head σ)) (add_is ρ p q) ∙ plus_times (poly_val ρ p) (poly_val ρ q) (head σ)) (add_all_is ρ (tail σ) ps qs)
-      ∙ swap (times (poly_val ρ p) (head σ)) (times (poly_val ρ q) (head σ)) (combination ρ (tail σ) ps) (combination ρ (tail σ) qs)
+      ap₂ plus (ap (λ z. times z (head nought σ)) (add_is ρ p q) ∙ plus_times (poly_val ρ p) (poly_val ρ q) (head nought σ)) (add_all_is ρ (tail σ) ps qs)
+      ∙ swap (times (poly_val ρ p) (head nought σ)) (times (poly_val ρ q) (head nought σ)) (combination ρ (tail σ) ps) (combination ρ (tail σ) qs)
 
   scale_all_is : (ρ : List ℤ) (σ : List V) (a : Poly) (ps : List Poly) → combination ρ σ (scale_all a ps) ≡ times (poly_val ρ a) (combination ρ σ ps)
   scale_all_is ρ σ a [] = sym (times_nought (poly_val ρ a))
   scale_all_is ρ σ a (p ∷ ps) =
-      ap₂ plus (ap (λ z. times z (head σ)) (mul_is ρ a p) ∙ times_times (poly_val ρ a) (poly_val ρ p) (head σ)) (scale_all_is ρ (tail σ) a ps)
-      ∙ sym (times_plus (poly_val ρ a) (times (poly_val ρ p) (head σ)) (combination ρ (tail σ) ps))
+      ap₂ plus (ap (λ z. times z (head nought σ)) (mul_is ρ a p) ∙ times_times (poly_val ρ a) (poly_val ρ p) (head nought σ)) (scale_all_is ρ (tail σ) a ps)
+      ∙ sym (times_plus (poly_val ρ a) (times (poly_val ρ p) (head nought σ)) (combination ρ (tail σ) ps))
 
-  unit_is : (ρ : List ℤ) (σ : List V) (i : ℕ) → combination ρ σ (unit i) ≡ at i σ
-  unit_is ρ σ zero = plus_nought _ ∙ one_times (head σ)
-  unit_is ρ σ (suc i) = ap (λ z. plus z (combination ρ (tail σ) (unit i))) (zero_times (head σ)) ∙ nought_plus _ ∙ unit_is ρ (tail σ) i
+  unit_is : (ρ : List ℤ) (σ : List V) (i : ℕ) → combination ρ σ (unit i) ≡ at nought i σ
+  unit_is ρ σ zero = plus_nought _ ∙ one_times (head nought σ)
+  unit_is ρ σ (suc i) = ap (λ z. plus z (combination ρ (tail σ) (unit i))) (zero_times (head nought σ)) ∙ nought_plus _ ∙ unit_is ρ (tail σ) i
 
   linear_normal_is : (ρ : List ℤ) (σ : List V) (a : Lin) → combination ρ σ (linear_normal a) ≡ lin_val ρ σ a
   linear_normal_is ρ σ (vector i) = unit_is ρ σ i
@@ -111,7 +100,7 @@ module _ {V : Type 0} {O : Ops V} (M : Module O) where
   all_vanish_is : (ρ : List ℤ) (σ : List V) (ps : List Poly) → T (all_vanish ps) → combination ρ σ ps ≡ nought
   all_vanish_is ρ σ [] t = refl
   all_vanish_is ρ σ (p ∷ ps) t =
-      ap₂ plus (ap (λ z. times z (head σ)) (vanishes_is ρ p (both (vanishes p) (all_vanish ps) t).0) ∙ zero_times (head σ)) (all_vanish_is ρ (tail σ) ps (both (vanishes p) (all_vanish ps) t).1)
+      ap₂ plus (ap (λ z. times z (head nought σ)) (vanishes_is ρ p (both (vanishes p) (all_vanish ps) t).0) ∙ zero_times (head nought σ)) (all_vanish_is ρ (tail σ) ps (both (vanishes p) (all_vanish ps) t).1)
       ∙ plus_nought nought
 
   from_difference : (x y : V) → plus x (times (negsuc 0) y) ≡ nought → x ≡ y

@@ -1,9 +1,10 @@
 -- A reflective solver for the identities of the commutative ring ℤ.
 --     ring ρ e₁ e₂ tt : val ρ e₁ ≡ val ρ e₂
 -- where ρ lists what the variables x₀, x₁ .. stand for, and `tt` passes if the polynomial of e₁ - e₂ has only zero coefficients.
-use Rattle.std.proofs.Common.{◌≡◌, ℕ, zero, suc, Bool, true, false, ◌&&◌, T, List, [], ◌∷◌, ℤ, pos, negsuc, ◌+ℤ◌, ◌*ℤ◌, neg_ℤ, sym, refl, ap, ◌∙◌, ap₂, arith}
+use Rattle.std.proofs.Common.{◌≡◌, ℕ, zero, suc, Bool, true, false, ◌&&◌, T, List, ℤ, pos, negsuc, ◌+ℤ◌, ◌*ℤ◌, neg_ℤ, sym, refl, ap, ◌∙◌, ap₂, arith}
 use lib.IntN.{zero-*ℤ, *ℤ-zero, *ℤ_comm, +ℤ_idl, +ℤ_idr}
 use Rattle.std.proofs.lemmas.Int.{ints}
+use Rattle.algebra.proofs.Variables.{head, tail, at}
 use Rattle.algebra.proofs.Integers.{*ℤ-assoc, *ℤ-+ℤ, +ℤ-*ℤ}
 
 -- ---- expressions
@@ -19,20 +20,8 @@ pub data Expr : Type 0 where
 abbrev pub ◌⊖◌ : Expr → Expr → Expr
 a ⊖ b = a ⊕ ⊝ b
 
-abbrev pub head : List ℤ → ℤ
-head [] = pos 0
-head (x ∷ xs) = x
-
-abbrev pub tail : List ℤ → List ℤ
-tail [] = []
-tail (x ∷ xs) = xs
-
-abbrev pub at : ℕ → List ℤ → ℤ
-at zero ρ = head ρ
-at (suc i) ρ = at i (tail ρ)
-
 abbrev pub val : List ℤ → Expr → ℤ
-val ρ (var i) = at i ρ
+val ρ (var i) = at (pos 0) i ρ
 val ρ (con c) = c
 val ρ (a ⊕ b) = val ρ a +ℤ val ρ b
 val ρ (a ⊗ b) = val ρ a *ℤ val ρ b
@@ -48,7 +37,7 @@ infixr 60 ◌▹◌
 abbrev pub poly_val : List ℤ → Poly → ℤ
 poly_val ρ (constant c) = c
 poly_val ρ empty = pos 0
-poly_val ρ (c ▹ p) = poly_val (tail ρ) c +ℤ head ρ *ℤ poly_val ρ p
+poly_val ρ (c ▹ p) = poly_val (tail ρ) c +ℤ head (pos 0) ρ *ℤ poly_val ρ p
 
 abbrev pub add_constant : ℤ → Poly → Poly
 add_constant a (constant b) = constant (a +ℤ b)
@@ -112,7 +101,7 @@ add_is ρ (constant a) q = add_constant_is ρ a q
 add_is ρ empty q = sym (+ℤ_idl (poly_val ρ q))
 add_is ρ (c ▹ p) (constant b) = rw (add_constant_is (tail ρ) b c) (omega (arith, ints))
 add_is ρ (c ▹ p) empty = sym (+ℤ_idr _)
-add_is ρ (c ▹ p) (d ▹ q) = rw (add_is (tail ρ) c d, add_is ρ p q) (regroup (poly_val (tail ρ) c) (poly_val (tail ρ) d) (head ρ) (poly_val ρ p) (poly_val ρ q))
+add_is ρ (c ▹ p) (d ▹ q) = rw (add_is (tail ρ) c d, add_is ρ p q) (regroup (poly_val (tail ρ) c) (poly_val (tail ρ) d) (head (pos 0) ρ) (poly_val ρ p) (poly_val ρ q))
 
 factor_out : (a x c p : ℤ) → a *ℤ c +ℤ x *ℤ (a *ℤ p) ≡ a *ℤ (c +ℤ x *ℤ p)
 factor_out a x c p = sym (*ℤ-+ℤ a c (x *ℤ p) ∙ ap (λ z. a *ℤ c +ℤ z) (sym (*ℤ-assoc a x p) ∙ ap (λ z. z *ℤ p) (*ℤ_comm a x) ∙ *ℤ-assoc x a p))
@@ -120,12 +109,12 @@ factor_out a x c p = sym (*ℤ-+ℤ a c (x *ℤ p) ∙ ap (λ z. a *ℤ c +ℤ z
 scale_is : (ρ : List ℤ) (a : ℤ) (p : Poly) → poly_val ρ (scale a p) ≡ a *ℤ poly_val ρ p
 scale_is ρ a (constant b) = refl
 scale_is ρ a empty = sym (*ℤ-zero a)
-scale_is ρ a (c ▹ p) = rw (scale_is (tail ρ) a c, scale_is ρ a p) (factor_out a (head ρ) (poly_val (tail ρ) c) (poly_val ρ p))
+scale_is ρ a (c ▹ p) = rw (scale_is (tail ρ) a c, scale_is ρ a p) (factor_out a (head (pos 0) ρ) (poly_val (tail ρ) c) (poly_val ρ p))
 
 each_is : (ρ : List ℤ) (f : Poly → Poly) (k : ℤ) → ((d : Poly) → poly_val (tail ρ) (f d) ≡ k *ℤ poly_val (tail ρ) d) → (q : Poly) → poly_val ρ (each f q) ≡ k *ℤ poly_val ρ q
-each_is ρ f k h (constant b) = rw (h (constant b), *ℤ-zero (head ρ)) (+ℤ_idr _)
+each_is ρ f k h (constant b) = rw (h (constant b), *ℤ-zero (head (pos 0) ρ)) (+ℤ_idr _)
 each_is ρ f k h empty = sym (*ℤ-zero k)
-each_is ρ f k h (c ▹ p) = rw (h c, each_is ρ f k h p) (factor_out k (head ρ) (poly_val (tail ρ) c) (poly_val ρ p))
+each_is ρ f k h (c ▹ p) = rw (h c, each_is ρ f k h p) (factor_out k (head (pos 0) ρ) (poly_val (tail ρ) c) (poly_val ρ p))
 
 distribute : (x c p q : ℤ) → c *ℤ q +ℤ (pos 0 +ℤ x *ℤ (p *ℤ q)) ≡ (c +ℤ x *ℤ p) *ℤ q
 distribute x c p q = rw (+ℤ_idl (x *ℤ (p *ℤ q)), ← (*ℤ-assoc x p q)) (sym (+ℤ-*ℤ c (x *ℤ p) q))
@@ -135,12 +124,12 @@ mul_is ρ (constant a) q = scale_is ρ a q
 mul_is ρ empty q = sym (zero-*ℤ (poly_val ρ q))
 mul_is ρ (c ▹ p) q =
     add_is ρ (each (mul c) q) (empty ▹ mul p q)
-    ∙ ap₂ (λ y z. y +ℤ (pos 0 +ℤ head ρ *ℤ z)) (each_is ρ (mul c) (poly_val (tail ρ) c) (mul_is (tail ρ) c) q) (mul_is ρ p q)
-    ∙ distribute (head ρ) (poly_val (tail ρ) c) (poly_val ρ p) (poly_val ρ q)
+    ∙ ap₂ (λ y z. y +ℤ (pos 0 +ℤ head (pos 0) ρ *ℤ z)) (each_is ρ (mul c) (poly_val (tail ρ) c) (mul_is (tail ρ) c) q) (mul_is ρ p q)
+    ∙ distribute (head (pos 0) ρ) (poly_val (tail ρ) c) (poly_val ρ p) (poly_val ρ q)
 
-variable_is : (ρ : List ℤ) (i : ℕ) → poly_val ρ (variable i) ≡ at i ρ
-variable_is ρ zero = rw (*ℤ-zero (head ρ)) (omega (arith, ints))
-variable_is ρ (suc i) = rw (*ℤ-zero (head ρ)) (+ℤ_idr _ ∙ variable_is (tail ρ) i)
+variable_is : (ρ : List ℤ) (i : ℕ) → poly_val ρ (variable i) ≡ at (pos 0) i ρ
+variable_is ρ zero = rw (*ℤ-zero (head (pos 0) ρ)) (omega (arith, ints))
+variable_is ρ (suc i) = rw (*ℤ-zero (head (pos 0) ρ)) (+ℤ_idr _ ∙ variable_is (tail ρ) i)
 
 pub normal_is : (ρ : List ℤ) (e : Expr) → poly_val ρ (normal e) ≡ val ρ e
 normal_is ρ (var i) = variable_is ρ i
@@ -161,7 +150,7 @@ both false b t = absurd t
 pub vanishes_is : (ρ : List ℤ) (p : Poly) → T (vanishes p) → poly_val ρ p ≡ pos 0
 vanishes_is ρ (constant a) t = zero_is a t
 vanishes_is ρ empty t = refl
-vanishes_is ρ (c ▹ p) t = rw (vanishes_is (tail ρ) c (both (vanishes c) (vanishes p) t).0, vanishes_is ρ p (both (vanishes c) (vanishes p) t).1) (+ℤ_idl _ ∙ *ℤ-zero (head ρ))
+vanishes_is ρ (c ▹ p) t = rw (vanishes_is (tail ρ) c (both (vanishes c) (vanishes p) t).0, vanishes_is ρ p (both (vanishes c) (vanishes p) t).1) (+ℤ_idl _ ∙ *ℤ-zero (head (pos 0) ρ))
 
 from_difference : (a b : ℤ) → a +ℤ neg_ℤ b ≡ pos 0 → a ≡ b
 from_difference a b e = omega (arith, ints)
