@@ -38,7 +38,6 @@ PATTERNS = {
         ("equality or opposite", r"fn (?:is_negative|differ|other)\("),
         ("cast", r"\bas (?:usize|[ui]\d+)\b"),
         ("match to a bool", r"matches!\("),
-        ("type without equality", r"#\[derive\(Clone, Copy\)\]"),
         ("match to an option or a result", r"\b(?:None => None|Some\(\w+\) => Ok|None => \{\}|Some\(\w+\) => Err)"),
     ],
     "5 facts and parameters": [

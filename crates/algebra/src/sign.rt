@@ -1,6 +1,6 @@
 // The sign of a number.
 
-#[derive(Clone, Copy, PartialEq, Eq)]
+#[derive(Clone, Copy, Debug, PartialEq, Eq)]
 pub enum Sign {
     Negative,
     Zero,

@@ -4,14 +4,14 @@ ghost use Rattle.algebra.specs.Pair.{pair, Within};
 ghost use Rattle.number.specs.Limits.{word};
 
 // A number whose drift is always 0.
-#[derive(Clone, Copy)]
+#[derive(Clone, Copy, Debug, PartialEq, Eq)]
 pub struct Plain {
     pub(crate) value: i64,
     ghost small: { unsigned_abs value ≤ word },
 }
 
 // A number with a drift of its own.
-#[derive(Clone, Copy)]
+#[derive(Clone, Copy, Debug, PartialEq, Eq)]
 pub struct Drifting {
     pub(crate) value: i64,
     pub(crate) drift: i64,

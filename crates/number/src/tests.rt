@@ -37,14 +37,6 @@ fn words(x: Option<Drifting>) -> Option<(i64, i64)> {
     x.map(|x| (x.value, x.drift))
 }
 
-fn letter(sign: Sign) -> char {
-    match sign {
-        Sign::Negative => '-',
-        Sign::Zero => '0',
-        Sign::Positive => '+',
-    }
-}
-
 #[test]
 fn makes(rt: HostRuntime) {
     // the two words, and what a plain and a drifting number make of them
@@ -108,17 +100,17 @@ fn doubles(rt: HostRuntime) -> Result<(), Fail> {
 fn signs(rt: HostRuntime) -> Result<(), Fail> {
     // value, drift, the value's sign, the pair's sign
     let table = [
-        (0, 0, '0', '0'),
-        (0, 1, '0', '+'),
-        (0, -1, '0', '-'),
-        (1, -TOP, '+', '+'),
-        (-1, TOP, '-', '-'),
-        (TOP, 0, '+', '+'),
-        (-TOP, 0, '-', '-'),
+        (0, 0, Sign::Zero, Sign::Zero),
+        (0, 1, Sign::Zero, Sign::Positive),
+        (0, -1, Sign::Zero, Sign::Negative),
+        (1, -TOP, Sign::Positive, Sign::Positive),
+        (-1, TOP, Sign::Negative, Sign::Negative),
+        (TOP, 0, Sign::Positive, Sign::Positive),
+        (-TOP, 0, Sign::Negative, Sign::Negative),
     ];
     for (value, drift, without, with) in table {
-        assert_eq!(rt; letter(plain(value)?.sign()), without);
-        assert_eq!(rt; letter(drifting(value, drift)?.sign()), with);
+        assert_eq!(rt; plain(value)?.sign(), without);
+        assert_eq!(rt; drifting(value, drift)?.sign(), with);
     }
     Ok(())
 }
