@@ -7,7 +7,7 @@ ghost use Rattle.ticket.specs.declared.fault.Refusal.TheVariants.{Relation as No
 use super::fault::Refusal;
 
 // One variable of the polynomial: the interval that it runs over, and the highest power in which it may stand.
-#[derive(Clone, Copy, Debug, PartialEq, Eq)]
+#[derive(Clone, Copy, Debug, Default, PartialEq, Eq)]
 pub struct Axis {
     pub degree: u8,
     pub lower: i32,
@@ -17,7 +17,7 @@ pub struct Axis {
 }
 
 // One monomial: its exponent on each of four axes, its coefficient, and the drift by which the coefficient ages.
-#[derive(Clone, Copy, Debug, PartialEq, Eq)]
+#[derive(Clone, Copy, Debug, Default, PartialEq, Eq)]
 pub struct Term {
     pub exponents: [u8; 4],
     pub coefficient: i32,
