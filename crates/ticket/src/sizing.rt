@@ -3,42 +3,25 @@ ghost use Rattle.std.specs.Prelude.{◌≡◌, ◌+◌, ◌*◌, ◌^◌, ◌≤
 ghost use Rattle.ticket.specs.Capped.{capped, part_of};
 ghost use Rattle.ticket.specs.Law.{content};
 ghost use Rattle.ticket.specs.SizedLaw.{sized_content};
-ghost use Rattle.ticket.specs.Sizes.{common as commonOf, reach as reachOf, power_reach, patch_count, scale as scale_of, terms_size, size_of, is_patch, is_sized, drifts_carried, sizing};
+ghost use Rattle.ticket.specs.Sizes.{common, reach, power_reach, patch_count, scale, terms_size, size_of, is_patch, is_sized, drifts_carried, sizing};
 
 use super::fault::{Fault, Refusal, check};
 use super::records::{Axis, Term};
 use super::sized_ticket::SizedTicket;
 use super::ticket::Ticket;
+use std::iter;
 
-const CAP: u64 = 1 << 62;
-
-fn plus(a: u64, b: u64) -> u64
-    ensures { result ≡ capped (a + b) }
-{
-    let sum = u128::from(a) + u128::from(b);
-    sum.min(u128::from(CAP)) as u64
-}
-
-fn times(a: u64, b: u64) -> u64
-    ensures { result ≡ capped (a * b) }
-{
-    let product = u128::from(a) * u128::from(b);
-    product.min(u128::from(CAP)) as u64
-}
+const LIMIT: u64 = (1 << 62) - 1;
 
 fn power(base: u64, exponent: u8) -> u64
     ensures { result ≡ capped (base ^ exponent) }
 {
-    let mut product = 1;
-    for _i in 0..exponent {
-        product = times(product, base);
-    }
-    product
+    iter::repeat_n(base, usize::from(exponent)).fold(1, u64::saturating_mul)
 }
 
 // The least common multiple of the binomials of a degree from 1 to 8.
 fn common(degree: u8) -> u64
-    ensures { result ≡ commonOf degree }
+    ensures { result ≡ common degree }
 {
     match degree {
         2 => 2,
@@ -70,62 +53,56 @@ impl Part {
     }
 }
 
-// A variable is nowhere on its axis larger in size than this.
-fn reach(axis: Axis) -> u64
-    ensures { result ≡ reachOf axis }
-{
-    let width = i64::from(axis.upper) - i64::from(axis.lower);
-    u64::from(axis.lower.unsigned_abs()) + width.unsigned_abs()
+impl Axis {
+    // A variable is nowhere on its axis larger in size than this.
+    fn reach(&self) -> u64
+        ensures { result ≡ reach self.now }
+    {
+        u64::from(self.lower.unsigned_abs()) + u64::from(self.upper.abs_diff(self.lower))
+    }
 }
 
 pub(crate) fn scale(axes: &[Axis]) -> u64
-    ensures { result ≡ capped (scale_of axes.now) }
+    ensures { result ≡ capped (scale axes.now) }
 {
-    let mut product = 1;
-    for axis in axes {
-        product = times(product, common(axis.degree));
-    }
-    product
+    axes.iter()
+        .map(|axis| common(axis.degree))
+        .fold(1, u64::saturating_mul)
 }
 
 pub(crate) fn patch_count(axes: &[Axis]) -> u64
     ensures { result ≡ capped (patch_count axes.now) }
 {
-    let mut product = 1;
-    for axis in axes {
-        product = times(product, u64::from(axis.degree) + 1);
-    }
-    product
+    axes.iter()
+        .map(|axis| u64::from(axis.degree) + 1)
+        .fold(1, u64::saturating_mul)
 }
 
 // The reaches of all variables, each to its exponent.
 fn power_reach(axes: &[Axis], exponents: &[u8]) -> u64
     ensures { result ≡ capped (power_reach axes.now exponents.now) }
 {
-    let mut product = 1;
-    for (j, axis) in axes.iter().enumerate() {
-        if j < exponents.len() {
-            product = times(product, power(reach(*axis), exponents[j]));
-        }
-    }
-    product
+    axes.iter()
+        .zip(exponents)
+        .map(|(axis, exponent)| power(axis.reach(), *exponent))
+        .fold(1, u64::saturating_mul)
 }
 
 fn terms_size(part: Part, axes: &[Axis], terms: &[Term]) -> u64
     ensures { result ≡ capped (terms_size (part_of part) axes.now terms.now) }
 {
-    let mut sum = 0;
-    for term in terms {
-        let size = part.size(term);
-        sum = plus(sum, times(size, power_reach(axes, &term.exponents)));
-    }
-    sum
+    terms
+        .iter()
+        .map(|term| part
+            .size(term)
+            .saturating_mul(power_reach(axes, &term.exponents)))
+        .fold(0, u64::saturating_add)
 }
 
 pub(crate) fn size(part: Part, axes: &[Axis], terms: &[Term]) -> u64
     ensures { result ≡ capped (size_of (part_of part) axes.now terms.now) }
 {
-    times(scale(axes), terms_size(part, axes, terms))
+    scale(axes).saturating_mul(terms_size(part, axes, terms))
 }
 
 // The terms, of which the first is record `first`, have no drift that the kind of number does not carry.
@@ -150,7 +127,7 @@ fn is_sized(axes: &[Axis], terms: &[Term]) -> bool
 {
     let value = size(Part::Value, axes, terms);
     let drift = size(Part::Drift, axes, terms);
-    value < CAP && drift < CAP
+    value <= LIMIT && drift <= LIMIT
 }
 
 impl Ticket {

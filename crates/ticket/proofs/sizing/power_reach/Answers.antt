@@ -1,35 +1,20 @@
-use Rattle.std.proofs.Common.{◌+◌, ◌*◌, ◌^◌, get_or, drop, sym, ap, ◌∙◌, subst, arith, rules}
-use Rattle.std.proofs.lemmas.List.{at_drop_all}
+use Rattle.std.proofs.Common.{◌*◌, ◌^◌, refl, ap, ◌∙◌, rules}
+use Rattle.std.proofs.lemmas.Iterator.{YieldsList-from_slice, YieldsList-from_zip, YieldsList-from_map}
+use Rattle.std.proofs.lemmas.Iterator.Consumers.{YieldsList-at, fold_from_yields_List}
 use Rattle.ticket.specs.Capped.{capped}
-use Rattle.ticket.specs.Sizes.{power_reach}
-use Rattle.ticket.proofs.Caps.{Product, product_start, product_more, product_end, cut_product_right, reach_more, reach_past}
+use Rattle.ticket.specs.Sizes.{reach}
+use Rattle.ticket.proofs.Caps.{cut_product_right, product_fold, reaches, reaches-zip}
 use Rattle.ticket.proofs.sizing.power_reach.Goals as goal
-use Rattle.ticket.proofs.sizing.power_reach.Goals.{then-j-exponents, else-j-exponents}
-
-pub loop-j-init : goal.loop-j-init
-loop-j-init c = product_start (power_reach c.args.axes.now c.args.exponents.now)
-
-pub loop-j-preserved : goal.loop-j-preserved
-loop-j-preserved c =
-    let axes = c.args.axes.now in
-    let es = c.args.exponents.now in
-    let j = c.loop-j.j in
-    let has = c.loop-j.product in
-    let whole = power_reach axes es in
-    elim c.if-j-exponents.branch [
-      | then-j-exponents w ↦
-          product_more has _ (power_reach (drop (j + 1) axes) (drop (j + 1) es)) whole
-          (w.product-is ∙ w.times-product.ensures ∙ ap (λ x. capped (has * x)) w.power.ensures ∙ cut_product_right has _ ∙ ap (λ x. capped (has * x ^ get_or es j 0)) w.reach.ensures)
-          (subst (λ x. Product has x whole) (reach_more axes es j _ (search rules) w.if-j-exponents.true) c.loop-j.invariant)
-      | else-j-exponents w ↦
-          let past = w.if-j-exponents.false in
-          subst (λ x. Product x (power_reach (drop (j + 1) axes) (drop (j + 1) es)) whole) (sym w.product-is)
-          (subst (λ x. Product has x whole) (reach_past axes es j past ∙ sym (reach_past axes es (j + 1) (omega (arith, past)))) c.loop-j.invariant)
-    ]
 
 pub returns : goal.returns
 returns c =
     let axes = c.args.axes.now in
-    let es = c.args.exponents.now in
-    product_end c.loop-j.product (power_reach axes es)
-    (subst (λ x. Product c.loop-j.product x (power_reach axes es)) (at_drop_all (λ l. power_reach l (drop c.loop-j.j es)) axes c.loop-j.j (search rules)) c.loop-j.invariant)
+    let exponents = c.args.exponents.now in
+    fold_from_yields_List _ (λ p y. capped (p * y)) 1 _ c.fold.ensures.ran
+        (YieldsList-from_map _ (λ q. capped (reach q.0 ^ q.1))
+        (YieldsList-at c.map.ensures.source
+        (YieldsList-from_zip (YieldsList-from_slice axes cc) (YieldsList-from_slice exponents cc)))
+        c.map.ensures.closure (λ x r q k. search rules))
+        (λ a x b q k. search rules)
+    ∙ product_fold reaches _ (λ q. reach q.0 ^ q.1) refl (λ _ _. refl) (λ n q. cut_product_right n (reach q.0 ^ q.1)) _
+    ∙ ap capped (reaches-zip _ _)
