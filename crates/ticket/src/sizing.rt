@@ -1,9 +1,10 @@
-// How large a ticket is. Sizes are computed up to a cap, one more than the largest that is accepted, so that no product wraps.
-ghost use Rattle.std.specs.Prelude.{◌≡◌, ◌+◌, ◌*◌, ◌^◌, ◌≤◌, length, unsigned_abs};
-ghost use Rattle.ticket.specs.Capped.{capped, part_of};
+// How large a ticket is. Products and sums stop at the largest word, which is over every limit, so that none wraps.
+ghost use Rattle.std.specs.Prelude.{◌≡◌, ◌^◌, ℤ, length};
+ghost use Rattle.ticket.specs.Capped.{capped};
 ghost use Rattle.ticket.specs.Law.{content};
 ghost use Rattle.ticket.specs.SizedLaw.{sized_content};
-ghost use Rattle.ticket.specs.Sizes.{common, reach, power_reach, patch_count, scale, terms_size, size_of, is_patch, is_sized, drifts_carried, sizing};
+ghost use Rattle.ticket.specs.Sizes.{common, reach, power_reach, patch_count, scale, size_of, value_size, drift_size, is_patch, is_sized, drifts_carried, sizing};
+ghost use Rattle.ticket.specs.declared.records.Term.{Term};
 
 use super::fault::{Fault, Refusal, check};
 use super::records::{Axis, Term};
@@ -35,24 +36,6 @@ fn common(degree: u8) -> u64
     }
 }
 
-// Which part of a coefficient is sized.
-#[derive(Clone, Copy)]
-pub enum Part {
-    Value,
-    Drift,
-}
-
-impl Part {
-    fn size(self, term: &Term) -> u64
-        ensures { result ≡ unsigned_abs (part_of self term.now) }
-    {
-        match self {
-            Part::Value => u64::from(term.coefficient.unsigned_abs()),
-            Part::Drift => u64::from(term.drift.unsigned_abs()),
-        }
-    }
-}
-
 impl Axis {
     // A variable is nowhere on its axis larger in size than this.
     fn reach(&self) -> u64
@@ -62,82 +45,94 @@ impl Axis {
     }
 }
 
-pub(crate) fn scale(axes: &[Axis]) -> u64
-    ensures { result ≡ capped (scale axes.now) }
-{
-    axes.iter()
-        .map(|axis| common(axis.degree))
-        .fold(1, u64::saturating_mul)
-}
-
-pub(crate) fn patch_count(axes: &[Axis]) -> u64
-    ensures { result ≡ capped (patch_count axes.now) }
-{
-    axes.iter()
-        .map(|axis| u64::from(axis.degree) + 1)
-        .fold(1, u64::saturating_mul)
-}
-
-// The reaches of all variables, each to its exponent.
-fn power_reach(axes: &[Axis], exponents: &[u8]) -> u64
-    ensures { result ≡ capped (power_reach axes.now exponents.now) }
-{
-    axes.iter()
-        .zip(exponents)
-        .map(|(axis, exponent)| power(axis.reach(), *exponent))
-        .fold(1, u64::saturating_mul)
-}
-
-fn terms_size(part: Part, axes: &[Axis], terms: &[Term]) -> u64
-    ensures { result ≡ capped (terms_size (part_of part) axes.now terms.now) }
-{
-    terms
-        .iter()
-        .map(|term| part
-            .size(term)
-            .saturating_mul(power_reach(axes, &term.exponents)))
-        .fold(0, u64::saturating_add)
-}
-
-pub(crate) fn size(part: Part, axes: &[Axis], terms: &[Term]) -> u64
-    ensures { result ≡ capped (size_of (part_of part) axes.now terms.now) }
-{
-    scale(axes).saturating_mul(terms_size(part, axes, terms))
-}
-
-// The terms, of which the first is record `first`, have no drift that the kind of number does not carry.
-fn check_drifts(drifts: bool, first: usize, terms: &[Term]) -> Result<(), Fault>
-    requires { (first ≤ 4) × (length terms.now ≤ 128) }
-    ensures { result ≡ drifts_carried drifts first terms.now }
-{
-    for (k, term) in terms.iter().enumerate() {
-        check(term.is_carried(drifts), Refusal::Drift, first + k, 12)?;
+impl Term {
+    // The reaches of all variables, each to its exponent.
+    fn power_reach(&self, axes: &[Axis]) -> u64
+        ensures { result ≡ capped (power_reach axes.now self.now.exponents) }
+    {
+        axes.iter()
+            .zip(&self.exponents)
+            .map(|(axis, exponent)| power(axis.reach(), *exponent))
+            .fold(1, u64::saturating_mul)
     }
-    Ok(())
-}
-
-fn is_patch(axes: &[Axis]) -> bool
-    ensures { result ≡ is_patch axes.now }
-{
-    patch_count(axes) <= 128
-}
-
-fn is_sized(axes: &[Axis], terms: &[Term]) -> bool
-    ensures { result ≡ is_sized axes.now terms.now }
-{
-    let value = size(Part::Value, axes, terms);
-    let drift = size(Part::Drift, axes, terms);
-    value <= LIMIT && drift <= LIMIT
 }
 
 impl Ticket {
+    pub(crate) fn scale(&self) -> u64
+        ensures { result ≡ capped (scale self.now.axes.items) }
+    {
+        self.axes
+            .iter()
+            .map(|axis| common(axis.degree))
+            .fold(1, u64::saturating_mul)
+    }
+
+    pub(crate) fn patch_count(&self) -> u64
+        ensures { result ≡ capped (patch_count self.now.axes.items) }
+    {
+        self.axes
+            .iter()
+            .map(|axis| u64::from(axis.degree) + 1)
+            .fold(1, u64::saturating_mul)
+    }
+
+    // The size of all terms, where of each this part counts.
+    fn size<F: Fn(&Term) -> i32>(&self, part: F) -> u64
+        requires { (state : F) (term : _) → F.pre state term }
+        ensures { (p : Term → ℤ) → ((t : _) (z : ℤ) → F.post part t z → z ≡ p t.now) → result ≡ capped (size_of p self.now.axes.items self.now.terms.items) }
+    {
+        let sum = self
+            .terms
+            .iter()
+            .map(|term| u64::from(part(term).unsigned_abs()).saturating_mul(term.power_reach(
+                &self.axes,
+            )))
+            .fold(0, u64::saturating_add);
+        self.scale().saturating_mul(sum)
+    }
+
+    pub(crate) fn value_size(&self) -> u64
+        ensures { result ≡ capped (value_size self.now.axes.items self.now.terms.items) }
+    {
+        self.size(|term| term.coefficient)
+    }
+
+    pub(crate) fn drift_size(&self) -> u64
+        ensures { result ≡ capped (drift_size self.now.axes.items self.now.terms.items) }
+    {
+        self.size(|term| term.drift)
+    }
+
+    fn is_patch(&self) -> bool
+        ensures { result ≡ is_patch self.now.axes.items }
+    {
+        self.patch_count() <= 128
+    }
+
+    fn is_sized(&self) -> bool
+        ensures { result ≡ is_sized self.now.axes.items self.now.terms.items }
+    {
+        self.value_size() <= LIMIT && self.drift_size() <= LIMIT
+    }
+
+    // No term, of which the first is the record behind the axes, has a drift that the kind of number does not carry.
+    fn check_drifts(&self, drifts: bool) -> Result<(), Fault>
+        ensures { result ≡ drifts_carried drifts (length self.now.axes.items) self.now.terms.items }
+    {
+        let first = self.axes.len();
+        for (k, term) in self.terms.iter().enumerate() {
+            check(term.is_carried(drifts), Refusal::Drift, first + k, 12)?;
+        }
+        Ok(())
+    }
+
     // The ticket as one whose size is known, for a kind of number that carries drift or not; or its first fault as a whole.
     pub fn sized(self, drifts: bool) -> Result<SizedTicket, Fault>
         ensures { sized_content result ≡ sizing drifts (content self) }
     {
-        check(is_patch(&self.axes), Refusal::PatchSize, 0, 0)?;
-        check(is_sized(&self.axes, &self.terms), Refusal::Size, 0, 0)?;
-        check_drifts(drifts, self.axes.len(), &self.terms)?;
+        check(self.is_patch(), Refusal::PatchSize, 0, 0)?;
+        check(self.is_sized(), Refusal::Size, 0, 0)?;
+        self.check_drifts(drifts)?;
         Ok(SizedTicket { ticket: self })
     }
 }
