@@ -19,11 +19,13 @@ impl SizedTicket {
     pub fn sizes(&self) -> Sizes
         ensures { result ≡ sizes_of (content self.now.ticket) }
     {
+        let value = self.ticket.value_size();
+        let drift = self.ticket.drift_size();
         Sizes {
             patch: self.ticket.patch_count() as usize,
             scale: self.ticket.scale(),
-            value: self.ticket.value_size(),
-            drift: self.ticket.drift_size(),
+            value,
+            drift,
         }
     }
 }

@@ -10,6 +10,6 @@ returns c =
     let terms = vec_items s.ticket.terms in
     let patch : c.patch_count.result ≡ patch_count axes = patch_is axes _ s.few c.patch_count.ensures in
     let factor : c.scale.result ≡ scale axes = scale_is axes terms _ _ s.ticket.formed c.scale.ensures in
-    let value : c.value_size.result ≡ value_size axes terms = value_is axes terms _ s.small c.value_size.ensures in
-    let drift : c.drift_size.result ≡ drift_size axes terms = drift_is axes terms _ s.small c.drift_size.ensures in
+    let value : c.value_size-value.result ≡ value_size axes terms = value_is axes terms _ s.small c.value_size-value.ensures in
+    let drift : c.drift_size-drift.result ≡ drift_size axes terms = drift_is axes terms _ s.small c.drift_size-drift.ensures in
     λ i. record { patch = patch i; scale = factor i; value = value i; drift = drift i }
