@@ -13,10 +13,12 @@ fn zeros(rest: &[u8], record: usize, byte: usize) -> Result<(), Fault>
     requires { (byte < 16) × (length rest.now ≤ 16) }
     ensures { result ≡ blank «record» byte rest.now }
 {
-    for (i, b) in rest.iter().enumerate() {
-        check(*b == 0, Refusal::NotZero, record, byte + i)?;
-    }
-    Ok(())
+    rest.iter().enumerate().try_for_each(|(i, b)| check(
+        *b == 0,
+        Refusal::NotZero,
+        record,
+        byte + i,
+    ))
 }
 
 fn is_degree(degree: u8) -> bool
@@ -65,10 +67,12 @@ fn exponents(draft: &Draft, record: usize, exponents: &[u8]) -> Result<(), Fault
     requires { length exponents.now ≤ 4 }
     ensures { result ≡ fit (seen draft.now).axes «record» exponents.now }
 {
-    for (j, e) in exponents.iter().enumerate() {
-        check(*e <= draft.degree(j), Refusal::Exponent, record, 1 + j)?;
-    }
-    Ok(())
+    exponents.iter().enumerate().try_for_each(|(j, e)| check(
+        *e <= draft.degree(j),
+        Refusal::Exponent,
+        record,
+        1 + j,
+    ))
 }
 
 pub(crate) fn term(

@@ -120,10 +120,12 @@ impl Ticket {
         ensures { result ≡ drifts_carried drifts (length self.now.axes.items) self.now.terms.items }
     {
         let first = self.axes.len();
-        for (k, term) in self.terms.iter().enumerate() {
-            check(term.is_carried(drifts), Refusal::Drift, first + k, 12)?;
-        }
-        Ok(())
+        self.terms.iter().enumerate().try_for_each(|(k, term)| check(
+            term.is_carried(drifts),
+            Refusal::Drift,
+            first + k,
+            12,
+        ))
     }
 
     // The ticket as one whose size is known, for a kind of number that carries drift or not; or its first fault as a whole.

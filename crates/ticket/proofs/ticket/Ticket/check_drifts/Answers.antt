@@ -1,25 +1,18 @@
-use Rattle.std.proofs.Common.{sym, ◌∙◌, rules}
+use Rattle.std.proofs.Common.{◌+◌, ◌∙◌, rules}
+use Rattle.std.proofs.lemmas.Iterator.{YieldsList-from_slice}
+use Rattle.std.proofs.lemmas.Iterator.Consumers.{YieldsList-at, YieldsList-from_enumerate}
+use Rattle.number.specs.Limits.{carries}
+use Rattle.ticket.specs.Faults.{fault}
 use Rattle.ticket.specs.Sizes.{drifts_carried}
-use Rattle.ticket.proofs.Chains.{exit, told, from_start, from_stops, from_goes, from_end}
+use Rattle.ticket.specs.declared.fault.Refusal.TheVariants.{Drift}
+use Rattle.ticket.proofs.Tries.{tried, numbered}
 use Rattle.ticket.proofs.ticket.Ticket.check_drifts.Goals as goal
-
-pub loop-k-init : goal.loop-k-init
-loop-k-init c = from_start _ _ _ _
-
-pub returns-in_err-check : goal.returns-in_err-check
-returns-in_err-check c =
-    exit c.from_residual.ensures.1
-    (from_stops _ _ _ c.deref-term-items.result.now _ c.loop-k.k (search rules) c.loop-k.invariant
-    (told _ c.is_carried.ensures c.in_err-check.ensures))
-    ∙ (λ i. drifts_carried c.args.drifts ((c.len-first.ensures ∙ c.args.self.now.axes.ok.0) i) (c.deref-term-items.ensures.value i))
-
-pub loop-k-preserved : goal.loop-k-preserved
-loop-k-preserved c =
-    from_goes _ _ _ c.deref-term-items.result.now _ c.loop-k.k (search rules) c.loop-k.invariant
-    (told _ c.is_carried.ensures c.in_ok-check.ensures)
 
 pub returns : goal.returns
 returns c =
-    from_end _ _ _ c.deref-term-items.result.now c.loop-k.k (search rules)
-    ∙ sym c.loop-k.invariant
-    ∙ (λ i. drifts_carried c.args.drifts ((c.len-first.ensures ∙ c.args.self.now.axes.ok.0) i) (c.deref-term-items.ensures.value i))
+    let terms = c.args.self.now.terms.items in
+    tried (λ p. carries c.args.drifts p.1.drift) (λ p. fault Drift (c.len-first.result + p.0) 12) _ _ _ _ _ c.try_for_each.ensures.ran
+    (YieldsList-from_enumerate (YieldsList-at c.enumerate.ensures.source (YieldsList-from_slice terms cc)) c.enumerate.ensures.count)
+    (λ x w q k. search rules)
+    ∙ numbered (λ _ t. carries c.args.drifts t.drift) (λ k. fault Drift k 12) c.len-first.result terms
+    ∙ (λ i. drifts_carried c.args.drifts ((c.len-first.ensures ∙ c.args.self.now.axes.ok.0) i) terms)
