@@ -53,7 +53,7 @@ impl Answer {
         ensures { result ≡ answer_of fault }
     {
         let place = Place {
-            number: fault.refusal.number(),
+            number: u8::from(fault.refusal),
             record: fault.record,
             byte: fault.byte,
         };

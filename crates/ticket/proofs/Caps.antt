@@ -1,7 +1,6 @@
--- Sums and products up to a cap: cutting on the way changes nothing.
-use Rattle.std.proofs.Common.{◌≡◌, ℕ, zero, suc, ◌+◌, ◌*◌, ◌^◌, ◌<◌, ◌≤◌, List, [], ◌∷◌, length, get_or, drop, refl, ap, ◌∙◌, subst, ⊎_elim, mul_assoc, mul_comm, mul-zero, mul-one, mul-suc, arith}
-use native.Mathlib.Nat.{pow-zero}
-use Rattle.std.proofs.lemmas.List.{at_drop_more, at_drop_all, drop_more, drop_all}
+-- Sums and products that stop at the largest word: stopping on the way changes nothing.
+use Rattle.std.proofs.Common.{◌≡◌, ℕ, zero, suc, ◌+◌, ◌-◌, ◌*◌, ◌^◌, ◌<◌, ◌≤◌, List, [], ◌∷◌, map, zip, replicate, fold, sym, refl, ap, ◌∙◌, ⊎_elim, mul_assoc, mul_comm, mul-zero, mul-one, mul-suc, arith}
+use native.Mathlib.Nat.{pow-succ', pow-zero}
 use Rattle.std.proofs.lemmas.Bool.{cases_lt}
 use Rattle.ticket.specs.Capped.{capped}
 use Rattle.ticket.specs.Sizes.{reach, power_reach}
@@ -13,15 +12,15 @@ cut_sum a b = omega arith
 pub cut_sum_right : (a b : ℕ) → capped (a + capped b) ≡ capped (a + b)
 cut_sum_right a b = omega arith
 
-large : (a b : ℕ) → 2 ^ 62 ≤ a → capped (2 ^ 62 * b) ≡ capped (a * b)
+large : (a b : ℕ) → 2 ^ 64 - 1 ≤ a → capped ((2 ^ 64 - 1) * b) ≡ capped (a * b)
 large a zero h = let e = mul-zero a in omega arith
-large a (suc b) h = let e = mul-suc a b in let f : 2 ^ 62 * suc b ≡ 2 ^ 62 * b + 2 ^ 62 = mul-suc (2 ^ 62) b in omega arith
+large a (suc b) h = let e = mul-suc a b in let f : (2 ^ 64 - 1) * suc b ≡ (2 ^ 64 - 1) * b + (2 ^ 64 - 1) = mul-suc (2 ^ 64 - 1) b in omega arith
 
 pub cut_product : (a b : ℕ) → capped (capped a * b) ≡ capped (a * b)
 cut_product a b =
     ⊎_elim (λ l. let e : capped a ≡ a = omega arith in ap (λ x. capped (x * b)) e)
-    (λ l. let e : capped a ≡ 2 ^ 62 = omega arith in ap (λ x. capped (x * b)) e ∙ large a b l)
-    (cases_lt a (2 ^ 62))
+    (λ l. let e : capped a ≡ 2 ^ 64 - 1 = omega arith in ap (λ x. capped (x * b)) e ∙ large a b l)
+    (cases_lt a (2 ^ 64 - 1))
 
 pub cut_product_right : (a b : ℕ) → capped (a * capped b) ≡ capped (a * b)
 cut_product_right a b = ap capped (mul_comm a (capped b)) ∙ cut_product b a ∙ ap capped (mul_comm b a)
@@ -29,67 +28,62 @@ cut_product_right a b = ap capped (mul_comm a (capped b)) ∙ cut_product b a �
 pub cut_both : (a b : ℕ) → capped (capped a * capped b) ≡ capped (a * b)
 cut_both a b = cut_product a (capped b) ∙ cut_product_right a b
 
--- ---- a loop that multiplies or adds: what it has, with what is left, comes to the whole
-pub record Comes (has whole : ℕ) (with_rest : ℕ) : Type 0 where
-  pub small : has ≤ 2 ^ 62
-  pub whole_is : capped with_rest ≡ capped whole
-
-abbrev pub Product : ℕ → ℕ → ℕ → Type 0
-Product has rest whole = Comes has whole (has * rest)
-
-abbrev pub Sum : ℕ → ℕ → ℕ → Type 0
-Sum has rest whole = Comes has whole (has + rest)
-
-cut : (n : ℕ) → capped n ≤ 2 ^ 62
+cut : (n : ℕ) → capped n < 2 ^ 64
 cut n = omega arith
 
-pub product_start : (whole : ℕ) → Product 1 whole whole
-product_start whole = let e : 1 * whole ≡ whole = omega arith in record { small = omega arith; whole_is = ap capped e }
+-- ---- folds over what is given for each element, which stands for its factor or its part
+module _ {X : Type 0} (whole : List X → ℕ) (given : X → ℕ) where
+  product_from : (factor : X → ℕ) → whole [] ≡ 1 → ((x : X) (xs : List X) → whole (x ∷ xs) ≡ factor x * whole xs) → ((n : ℕ) (x : X) → capped (n * given x) ≡ capped (n * factor x))
+      → (n : ℕ) → n < 2 ^ 64 → (xs : List X) → fold (λ p y. capped (p * y)) n (map given xs) ≡ capped (n * whole xs)
+  product_from factor none more same n h [] = let e : n * 1 ≡ n = mul-one n in let f : n ≡ capped n = omega arith in f ∙ ap capped (sym e) ∙ ap (λ k. capped (n * k)) (sym none)
+  product_from factor none more same n h (x ∷ xs) =
+      product_from factor none more same (capped (n * given x)) (cut (n * given x)) xs
+      ∙ ap (λ k. capped (k * whole xs)) (same n x)
+      ∙ cut_product (n * factor x) (whole xs)
+      ∙ ap capped (mul_assoc n (factor x) (whole xs) ∙ ap (λ k. n * k) (sym (more x xs)))
 
-pub product_more : (has factor rest whole : ℕ) {now : ℕ} → now ≡ capped (has * factor) → Product has (factor * rest) whole → Product now rest whole
-product_more has factor rest whole {now} e p =
-    let q : capped (now * rest) ≡ capped (has * (factor * rest)) = ap (λ x. capped (x * rest)) e ∙ cut_product (has * factor) rest ∙ ap capped (mul_assoc has factor rest) in
-    let s = cut (has * factor) in
-    record { small = omega arith; whole_is = q ∙ p.whole_is }
+  pub product_fold : (factor : X → ℕ) → whole [] ≡ 1 → ((x : X) (xs : List X) → whole (x ∷ xs) ≡ factor x * whole xs) → ((n : ℕ) (x : X) → capped (n * given x) ≡ capped (n * factor x))
+      → (xs : List X) → fold (λ p y. capped (p * y)) 1 (map given xs) ≡ capped (whole xs)
+  product_fold factor none more same xs =
+      let e : 1 * whole xs ≡ whole xs = omega arith in
+      product_from factor none more same 1 (omega arith) xs ∙ ap capped e
 
-pub product_end : (has whole : ℕ) → Product has 1 whole → has ≡ capped whole
-product_end has whole p = let h = p.small in let w = p.whole_is in let e = mul-one has in omega arith
+  sum_from : (part : X → ℕ) → whole [] ≡ 0 → ((x : X) (xs : List X) → whole (x ∷ xs) ≡ part x + whole xs) → ((x : X) → given x ≡ capped (part x))
+      → (n : ℕ) → n < 2 ^ 64 → (xs : List X) → fold (λ s y. capped (s + y)) n (map given xs) ≡ capped (n + whole xs)
+  sum_from part none more same n h [] = omega arith
+  sum_from part none more same n h (x ∷ xs) =
+      sum_from part none more same (capped (n + given x)) (cut (n + given x)) xs
+      ∙ (let p = same x in let q = more x xs in omega arith)
 
-pub sum_start : (whole : ℕ) → Sum 0 whole whole
-sum_start whole = let e : 0 + whole ≡ whole = omega arith in record { small = omega arith; whole_is = ap capped e }
+  pub sum_fold : (part : X → ℕ) → whole [] ≡ 0 → ((x : X) (xs : List X) → whole (x ∷ xs) ≡ part x + whole xs) → ((x : X) → given x ≡ capped (part x))
+      → (xs : List X) → fold (λ s y. capped (s + y)) 0 (map given xs) ≡ capped (whole xs)
+  sum_fold part none more same xs =
+      let e : 0 + whole xs ≡ whole xs = omega arith in
+      sum_from part none more same 0 (omega arith) xs ∙ ap capped e
 
-pub sum_more : (has part rest whole : ℕ) {now : ℕ} → now ≡ capped (has + part) → Sum has (part + rest) whole → Sum now rest whole
-sum_more has part rest whole {now} e p =
-    let w = p.whole_is in
-    record { small = omega arith; whole_is = omega arith }
+-- ---- a power, as the product of copies of its base
+power_from : (b n k : ℕ) → k < 2 ^ 64 → fold (λ p y. capped (p * y)) k (replicate n b) ≡ capped (k * b ^ n)
+power_from b zero k h = let e : k * 1 ≡ k = mul-one k in let f : k ≡ capped k = omega arith in f ∙ ap capped (sym e) ∙ ap (λ j. capped (k * j)) (sym (pow-zero b))
+power_from b (suc n) k h =
+    power_from b n (capped (k * b)) (cut (k * b))
+    ∙ cut_product (k * b) (b ^ n)
+    ∙ ap capped (mul_assoc k b (b ^ n) ∙ ap (λ j. k * j) (sym (pow-succ' b n)))
 
-pub sum_end : (has whole : ℕ) → Sum has 0 whole → has ≡ capped whole
-sum_end has whole p = let h = p.small in let w = p.whole_is in omega arith
+pub power_fold : (b n : ℕ) → fold (λ p y. capped (p * y)) 1 (replicate n b) ≡ capped (b ^ n)
+power_fold b n =
+    let e : 1 * b ^ n ≡ b ^ n = omega arith in
+    power_from b n 1 (omega arith) ∙ ap capped e
 
--- ---- the same over a list, of which the first i elements are done
-module _ {X : Type 0} (F : List X → ℕ) (f : X → ℕ) (xs : List X) (i : ℕ) (d : X) where
-  pub list_product_more : ((x : X) (l : List X) → F (x ∷ l) ≡ f x * F l) → i < length xs → (has : ℕ) {now : ℕ} → now ≡ capped (has * f (get_or xs i d)) → Product has (F (drop i xs)) (F xs) → Product now (F (drop (i + 1) xs)) (F xs)
-  list_product_more step h has e p =
-      product_more has (f (get_or xs i d)) (F (drop (i + 1) xs)) (F xs) e (subst (λ x. Product has x (F xs)) (at_drop_more F xs i d h ∙ step (get_or xs i d) (drop (i + 1) xs)) p)
+-- ---- the reaches of the variables, with their exponents
+abbrev pub reaches : List (Axis × ℕ) → ℕ
+reaches [] = 1
+reaches (p ∷ ps) = reach p.0 ^ p.1 * reaches ps
 
-  pub list_sum_more : ((x : X) (l : List X) → F (x ∷ l) ≡ f x + F l) → i < length xs → (has : ℕ) {now : ℕ} → now ≡ capped (has + f (get_or xs i d)) → Sum has (F (drop i xs)) (F xs) → Sum now (F (drop (i + 1) xs)) (F xs)
-  list_sum_more step h has e p =
-      sum_more has (f (get_or xs i d)) (F (drop (i + 1) xs)) (F xs) e (subst (λ x. Sum has x (F xs)) (at_drop_more F xs i d h ∙ step (get_or xs i d) (drop (i + 1) xs)) p)
-
-module _ {X : Type 0} (F : List X → ℕ) (xs : List X) (i has : ℕ) where
-  pub list_product_end : F [] ≡ 1 → length xs ≤ i → Product has (F (drop i xs)) (F xs) → has ≡ capped (F xs)
-  list_product_end none h p = product_end has (F xs) (subst (λ x. Product has x (F xs)) (at_drop_all F xs i h ∙ none) p)
-
-  pub list_sum_end : F [] ≡ 0 → length xs ≤ i → Sum has (F (drop i xs)) (F xs) → has ≡ capped (F xs)
-  list_sum_end none h p = sum_end has (F xs) (subst (λ x. Sum has x (F xs)) (at_drop_all F xs i h ∙ none) p)
-
--- ---- the reaches of the variables, of which the first j are done
-pub reach_more : (axes : List Axis) (es : List ℕ) (j : ℕ) (d : Axis) → j < length axes → j < length es → power_reach (drop j axes) (drop j es) ≡ reach (get_or axes j d) ^ get_or es j 0 * power_reach (drop (j + 1) axes) (drop (j + 1) es)
-reach_more axes es j d h k = λ i. power_reach (drop_more axes j d h i) (drop_more es j 0 k i)
-
-no_exponents : (axes : List Axis) → power_reach axes [] ≡ 1
+no_exponents : (axes : List Axis) → 1 ≡ power_reach axes []
 no_exponents [] = refl
-no_exponents (a ∷ axes) = λ i. pow-zero (reach a) i * no_exponents axes i
+no_exponents (a ∷ axes) = λ i. sym (pow-zero (reach a)) i * no_exponents axes i
 
-pub reach_past : (axes : List Axis) (es : List ℕ) (j : ℕ) → length es ≤ j → power_reach (drop j axes) (drop j es) ≡ 1
-reach_past axes es j h = ap (power_reach (drop j axes)) (drop_all j es h) ∙ no_exponents (drop j axes)
+pub reaches-zip : (axes : List Axis) (es : List ℕ) → reaches (zip axes es) ≡ power_reach axes es
+reaches-zip [] es = refl
+reaches-zip (a ∷ axes) [] = no_exponents (a ∷ axes)
+reaches-zip (a ∷ axes) (e ∷ es) = ap (λ k. reach a ^ e * k) (reaches-zip axes es)

@@ -1,5 +1,5 @@
 -- A ticket is read exactly if the bytes are the encoding of a well-formed one.
-use Rattle.std.proofs.Common.{◌≡◌, ℕ, ◌-◌, List, take, IsErrAnd, Ok, Err, Result, sym, ap, ◌∙◌, subst, arith}
+use Rattle.std.proofs.Common.{◌≡◌, ℕ, List, IsErrAnd, Ok, Err, Result, sym, ap, ◌∙◌, subst}
 use Rattle.std.proofs.lemmas.Result.{err_from_is_err_and}
 use Rattle.ticket.specs.Drafts.{seen}
 use Rattle.ticket.specs.Law.{Answers, Encodes, Exactly, Unambiguous}
@@ -46,10 +46,6 @@ starved bs {c} r h small e =
     subst (Owed bs) (sym (p.1 ∙ ap Err p.2)) owed
 
 -- the lists that were taken of a draft are what it saw
-pub built : (bs : List ℕ) (d : Draft) (q : Question) (axes : List Axis) (terms : List Term) → Ok (ticket_of (seen d) q) ≡ reading bs → axes ≡ take (d.axis_count - 0) d.axes → terms ≡ take (d.term_count - 0) d.terms → reading bs ≡ Ok (record { axes = axes; terms = terms; relation = q.relation; depth = q.depth })
+pub built : (bs : List ℕ) (d : Draft) (q : Question) (axes : List Axis) (terms : List Term) → Ok (ticket_of (seen d) q) ≡ reading bs → axes ≡ d.axes.items → terms ≡ d.terms.items → reading bs ≡ Ok (record { axes = axes; terms = terms; relation = q.relation; depth = q.depth })
 built bs d q axes terms h a t =
-    let m : d.axis_count - 0 ≡ d.axis_count = omega arith in
-    let n : d.term_count - 0 ≡ d.term_count = omega arith in
-    let e : axes ≡ take d.axis_count d.axes = a ∙ ap (λ k. take k d.axes) m in
-    let f : terms ≡ take d.term_count d.terms = t ∙ ap (λ k. take k d.terms) n in
-    sym h ∙ (λ i. Ok (let c : Content = record { axes = sym e i; terms = sym f i; relation = q.relation; depth = q.depth } in c))
+    sym h ∙ (λ i. Ok (let c : Content = record { axes = sym a i; terms = sym t i; relation = q.relation; depth = q.depth } in c))

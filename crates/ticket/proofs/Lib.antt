@@ -1,6 +1,7 @@
 pub mod Chains
 pub mod Degrees
 pub mod ByKind
+pub mod Tries
 pub mod Turns
 pub mod Bytes
 pub mod Listed

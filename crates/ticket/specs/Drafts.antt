@@ -1,5 +1,6 @@
 -- What a draft has seen of its ticket.
-use Rattle.std.specs.Prelude.{◌<◌, take, Ok, Err, Result}
+use Rattle.std.specs.Prelude.{◌<◌, Ok, Err, Result}
+use Rattle.arrayvec.specs.ArrayVec.{array_vec_len}
 use Rattle.ticket.specs.Reading.{Seen, ticket_of}
 use Rattle.ticket.specs.WellFormed.{Content}
 use Rattle.ticket.specs.declared.fault.Fault.{Fault}
@@ -9,12 +10,12 @@ use Rattle.ticket.specs.declared.records.Record.{Record}
 use Rattle.ticket.specs.declared.records.Record.TheVariants.{Axis as IsAxis, Term as IsTerm, Question as IsQuestion}
 
 abbrev pub seen : Draft → Seen
-seen d = record { axes = take d.axis_count d.axes; terms = take d.term_count d.terms; question = d.question }
+seen d = record { axes = d.axes.items; terms = d.terms.items; question = d.question }
 
 -- the draft has room for the record
 abbrev pub Room : Record → Draft → Type 0
-Room (IsAxis a) d = d.axis_count < 4
-Room (IsTerm t) d = d.term_count < 128
+Room (IsAxis a) d = array_vec_len d.axes < 4
+Room (IsTerm t) d = array_vec_len d.terms < 128
 Room (IsQuestion q) d = Unit {0}
 
 -- the ticket of a draft and the question at its end

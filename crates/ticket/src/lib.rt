@@ -9,7 +9,6 @@
 #![tactic(auto)]
 
 mod draft;
-mod drafting;
 mod failure;
 mod fault;
 mod parts;

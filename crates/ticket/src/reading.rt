@@ -106,8 +106,8 @@ impl<'a> Reader<'a> {
     {
         let bytes = &self.bytes[self.origin..self.end];
         let (draft, question) = read_records(bytes)?;
-        let axes = Vec::from_slice(heap, &draft.axes[0..draft.axis_count])?;
-        let terms = Vec::from_slice(heap, &draft.terms[0..draft.term_count])?;
+        let axes = Vec::from_slice(heap, &draft.axes)?;
+        let terms = Vec::from_slice(heap, &draft.terms)?;
         Ok(Ticket {
             axes,
             terms,
@@ -123,14 +123,14 @@ fn read_records(bytes: &[u8]) -> Result<(Draft, Question), Fault>
     ensures bytes { OnOk result (Bytes bytes.now) }
 {
     check(is_length(bytes.len()), Refusal::Length, 0, 0)?;
-    let count = bytes.len() / 16;
+    let (records, _) = bytes.as_chunks::<16>();
     let mut draft = Draft::new();
-    for at in 0..count {
-        let record = take_record(&bytes[16 * at..16 * at + 16], at, &draft)?;
+    for (at, bytes) in records.iter().enumerate() {
+        let record = take_record(bytes, at, &draft)?;
         draft.add(record);
     }
-    match draft.question {
-        Some(question) => Ok((draft, question)),
-        None => Err(Fault::at(Refusal::Turn, count - 1, 0)),
-    }
+    let Some(question) = draft.question else {
+        return Err(Fault::at(Refusal::Turn, records.len() - 1, 0));
+    };
+    Ok((draft, question))
 }

@@ -1,22 +1,20 @@
-use Rattle.std.proofs.Common.{get_or, sym, ◌∙◌, rules}
+use Rattle.std.proofs.Common.{ℕ, ◌+◌, ◌-◌, leb, ◌∙◌, rules}
+use Rattle.std.specs.List.{enumerate_from}
+use Rattle.std.proofs.lemmas.Iterator.{YieldsList-from_slice}
+use Rattle.std.proofs.lemmas.Iterator.Consumers.{YieldsList-at, YieldsList-from_enumerate}
 use Rattle.ticket.specs.Drafts.{seen}
-use Rattle.ticket.proofs.Chains.{exit, told, from_start, from_stops, from_goes, from_end}
-use Rattle.ticket.proofs.Degrees.{at_byte}
+use Rattle.ticket.specs.Faults.{fault}
+use Rattle.ticket.specs.WellFormed.{degree_at}
+use Rattle.ticket.specs.declared.fault.Refusal.TheVariants.{Exponent}
+use Rattle.ticket.proofs.Degrees.{of_byte}
+use Rattle.ticket.proofs.Tries.{all_checked, tried, numbered}
 use Rattle.ticket.proofs.parts.exponents.Goals as goal
 
-pub loop-j-init : goal.loop-j-init
-loop-j-init c = from_start _ _ _ _
-
-pub returns-in_err-check : goal.returns-in_err-check
-returns-in_err-check c =
-    exit c.from_residual.ensures.1
-    (from_stops _ _ _ c.args.exponents.now 0 c.loop-j.j (search rules) c.loop-j.invariant
-    (told _ (at_byte (get_or c.args.exponents.now c.loop-j.j 0) (seen c.args.draft.now).axes c.loop-j.j c.degree.ensures) c.in_err-check.ensures))
-
-pub loop-j-preserved : goal.loop-j-preserved
-loop-j-preserved c =
-    from_goes _ _ _ c.args.exponents.now 0 c.loop-j.j (search rules) c.loop-j.invariant
-    (told _ (at_byte (get_or c.args.exponents.now c.loop-j.j 0) (seen c.args.draft.now).axes c.loop-j.j c.degree.ensures) c.in_ok-check.ensures)
-
 pub returns : goal.returns
-returns c = from_end _ _ _ c.args.exponents.now c.loop-j.j (search rules) ∙ sym c.loop-j.invariant
+returns c =
+    let axes = (seen c.args.draft.now).axes in
+    tried (λ p. leb p.1 (degree_at axes p.0)) (λ p. fault Exponent c.args.record (1 + p.0)) _ _ _ _ _ c.try_for_each.ensures.ran
+    (YieldsList-from_enumerate (YieldsList-at c.enumerate.ensures.source (YieldsList-from_slice c.args.exponents.now cc)) c.enumerate.ensures.count)
+    (λ x w q k. search rules)
+    ∙ (λ i. all_checked (λ (p : ℕ × ℕ). leb p.1 (degree_at axes (of_byte p.0 i))) (λ p. fault Exponent c.args.record (1 + p.0)) (enumerate_from 0 c.args.exponents.now))
+    ∙ numbered (λ b e. leb e (degree_at axes (b - 1))) (fault Exponent c.args.record) 1 c.args.exponents.now

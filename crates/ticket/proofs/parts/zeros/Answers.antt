@@ -1,16 +1,14 @@
-use Rattle.std.proofs.Common.{sym, ◌∙◌, rules}
-use Rattle.ticket.proofs.Chains.{exit, from_start, from_stops, from_goes, from_end}
+use Rattle.std.proofs.Common.{eqb, ◌+◌, ◌∙◌, rules}
+use Rattle.std.proofs.lemmas.Iterator.{YieldsList-from_slice}
+use Rattle.std.proofs.lemmas.Iterator.Consumers.{YieldsList-at, YieldsList-from_enumerate}
+use Rattle.ticket.specs.Faults.{fault}
+use Rattle.ticket.specs.declared.fault.Refusal.TheVariants.{NotZero}
+use Rattle.ticket.proofs.Tries.{tried, numbered}
 use Rattle.ticket.proofs.parts.zeros.Goals as goal
 
-pub loop-i-init : goal.loop-i-init
-loop-i-init c = from_start _ _ _ _
-
-pub returns-in_err-check : goal.returns-in_err-check
-returns-in_err-check c =
-    exit c.from_residual.ensures.1 (from_stops _ _ _ c.args.rest.now 0 c.loop-i.i (search rules) c.loop-i.invariant c.in_err-check.ensures)
-
-pub loop-i-preserved : goal.loop-i-preserved
-loop-i-preserved c = from_goes _ _ _ c.args.rest.now 0 c.loop-i.i (search rules) c.loop-i.invariant c.in_ok-check.ensures
-
 pub returns : goal.returns
-returns c = from_end _ _ _ c.args.rest.now c.loop-i.i (search rules) ∙ sym c.loop-i.invariant
+returns c =
+    tried (λ p. eqb p.1 0) (λ p. fault NotZero c.args.record (c.args.byte + p.0)) _ _ _ _ _ c.try_for_each.ensures.ran
+    (YieldsList-from_enumerate (YieldsList-at c.enumerate.ensures.source (YieldsList-from_slice c.args.rest.now cc)) c.enumerate.ensures.count)
+    (λ x w q k. search rules)
+    ∙ numbered (λ _ b. eqb b 0) (fault NotZero c.args.record) c.args.byte c.args.rest.now

@@ -1,3 +1,4 @@
+use Rattle.std.proofs.Common.{◌∙◌}
 use Rattle.ticket.specs.Law.{lent}
 use Rattle.ticket.proofs.Exact.{refused, starved, built, unambiguous}
 use Rattle.ticket.proofs.Sound.{sound}
@@ -23,11 +24,11 @@ returns-in_err-terms c =
 pub invariant_of-result : goal.invariant_of-result
 invariant_of-result c =
     let read = c.in_ok-draft.ensures in
-    let is = built (lent c.args.self.now) c.in_ok-draft.draft c.in_ok-draft.question _ _ read.value c.in_ok-axes.ensures.items c.in_ok-terms.ensures.items in
+    let is = built (lent c.args.self.now) c.in_ok-draft.draft c.in_ok-draft.question _ _ read.value (c.in_ok-axes.ensures.items ∙ c.deref.ensures.0) (c.in_ok-terms.ensures.items ∙ c.deref-2.ensures.0) in
     record { formed = (sound (lent c.args.self.now) _ read.bytes is).formed }
 
 pub returns : goal.returns
 returns c =
     let read = c.in_ok-draft.ensures in
-    let is = built (lent c.args.self.now) c.in_ok-draft.draft c.in_ok-draft.question _ _ read.value c.in_ok-axes.ensures.items c.in_ok-terms.ensures.items in
+    let is = built (lent c.args.self.now) c.in_ok-draft.draft c.in_ok-draft.question _ _ read.value (c.in_ok-axes.ensures.items ∙ c.deref.ensures.0) (c.in_ok-terms.ensures.items ∙ c.deref-2.ensures.0) in
     record { answer = is; exactly = sound (lent c.args.self.now) _ read.bytes is; unambiguous = unambiguous }

@@ -1,5 +1,5 @@
-use Rattle.std.proofs.Common.{refl, ap, ◌∙◌}
-use Rattle.ticket.specs.Sizes.{is_patch, is_sized, drifts_carried, sizing}
+use Rattle.std.proofs.Common.{refl}
+use Rattle.ticket.specs.Sizes.{sizing}
 use Rattle.ticket.proofs.Chains.{through, stops, told}
 use Rattle.ticket.proofs.SizedExit.{exit_sized}
 use Rattle.ticket.proofs.ticket.Ticket.sized.Goals as goal
@@ -8,26 +8,26 @@ pub returns-in_err-check : goal.returns-in_err-check
 unfolding sizing
 returns-in_err-check c =
     exit_sized _ c.from_residual.ensures.1
-    (stops _ (told _ (c.is_patch.ensures ∙ ap is_patch c.deref.ensures.value) c.in_err-check.ensures))
+    (stops _ (told _ c.is_patch.ensures c.in_err-check.ensures))
 
 pub returns-in_err-check-2 : goal.returns-in_err-check-2
 unfolding sizing
 returns-in_err-check-2 c =
     exit_sized _ c.from_residual-in_err-check-2.ensures.1
-    (through _ (told _ (c.is_patch.ensures ∙ ap is_patch c.deref.ensures.value) c.in_ok-check.ensures)
-    (stops _ (told _ (c.is_sized.ensures ∙ (λ i. is_sized (c.deref-2.ensures.value i) (c.deref-3.ensures.value i))) c.in_err-check-2.ensures)))
+    (through _ (told _ c.is_patch.ensures c.in_ok-check.ensures)
+    (stops _ (told _ c.is_sized.ensures c.in_err-check-2.ensures)))
 
 pub returns-in_err-check_drifts : goal.returns-in_err-check_drifts
 unfolding sizing
 returns-in_err-check_drifts c =
     exit_sized _ c.from_residual-in_err-check_drifts.ensures.1
-    (through _ (told _ (c.is_patch.ensures ∙ ap is_patch c.deref.ensures.value) c.in_ok-check.ensures)
-    (through _ (told _ (c.is_sized.ensures ∙ (λ i. is_sized (c.deref-2.ensures.value i) (c.deref-3.ensures.value i))) c.in_ok-check-2.ensures)
-    (stops _ (c.in_err-check_drifts.ensures ∙ (λ i. drifts_carried c.args.drifts ((c.len.ensures ∙ c.args.self.axes.ok.0) i) (c.deref-4.ensures.value i))))))
+    (through _ (told _ c.is_patch.ensures c.in_ok-check.ensures)
+    (through _ (told _ c.is_sized.ensures c.in_ok-check-2.ensures)
+    (stops _ c.in_err-check_drifts.ensures)))
 
 pub returns : goal.returns
 unfolding sizing
 returns c =
-    through _ (told _ (c.is_patch.ensures ∙ ap is_patch c.deref.ensures.value) c.in_ok-check.ensures)
-    (through _ (told _ (c.is_sized.ensures ∙ (λ i. is_sized (c.deref-2.ensures.value i) (c.deref-3.ensures.value i))) c.in_ok-check-2.ensures)
-    (through _ (c.in_ok-check_drifts.ensures ∙ (λ i. drifts_carried c.args.drifts ((c.len.ensures ∙ c.args.self.axes.ok.0) i) (c.deref-4.ensures.value i))) refl))
+    through _ (told _ c.is_patch.ensures c.in_ok-check.ensures)
+    (through _ (told _ c.is_sized.ensures c.in_ok-check-2.ensures)
+    (through _ c.in_ok-check_drifts.ensures refl))
