@@ -1,8 +1,7 @@
 // Halving a patch inside a workspace.
-ghost use Rattle.std.specs.Prelude.{◌≡◌, ℕ, ◌+◌, ◌*◌, ◌<◌, ◌≤◌, true, map, length, is_ok, OnOk, OnErr, nat_le};
-ghost use Rattle.number.specs.Limits.{may_grow};
-ghost use Rattle.patch.specs.Sweeps.{pair_at};
-ghost use Rattle.patch.specs.Halving.{may_halve, halving, Halved, Split};
+ghost use Rattle.std.specs.Prelude.{◌≡◌, ℕ, ◌+◌, ◌*◌, ◌<◌, ◌≤◌, true, take, map, length, is_ok, OnOk, OnErr, nat_le};
+ghost use Rattle.patch.specs.Judging.{all_grow};
+ghost use Rattle.patch.specs.Halving.{may_halve, halving, Halved, both_halves};
 ghost use Rattle.patch.specs.Meaning.{HalfRepresents, HalvesCover};
 
 use crate::judging::all_grow;
@@ -19,20 +18,19 @@ fn has_room(length: usize, start: usize, size: usize) -> bool
     start <= length && size <= (length - start) / 2
 }
 
-// Copies the patch behind itself and halves each copy in its place: so nothing before it moves, and the half that is looked at first
-// comes last.
-fn split<K: Number>(work: &mut [K], start: usize, shape: Shape, first: Half)
-    requires fits { start + (shape.size + shape.size) ≤ length work.old }
+// Halves the patch in the first of two slots: it is copied to the second, and each copy halved in its place, so that the half that is
+// looked at first comes last.
+fn split<K: Number>(slots: &mut [K], shape: Shape, first: Half)
+    requires some { 0 < shape.blocks }
     requires counts { shape.size ≡ shape.blocks * ((shape.degree + 1) * shape.stride) }
-    requires some { 0 < shape.stride }
-    requires small { (p : ℕ) → p < shape.size → may_grow K.limit shape.degree (pair_at (map K.means work.old) (start + p)) ≡ true }
-    ensures { Split first shape.degree shape.stride shape.size start (pair_at (map K.means work.old)) (pair_at (map K.means work.new)) }
+    requires two { length slots.old ≡ shape.size + shape.size }
+    requires small { all_grow K.limit shape.degree (take shape.size (map K.means slots.old)) ≡ true }
+    ensures { map K.means slots.new ≡ both_halves first shape (take shape.size (map K.means slots.old)) }
 {
-    let n = shape.degree as usize;
-    let end = start + shape.size;
-    work.copy_within(start..end, end);
-    halve_patch(work, start, shape.blocks, n, shape.stride, first.other());
-    halve_patch(work, end, shape.blocks, n, shape.stride, first);
+    let (patch, behind) = slots.split_at_mut(shape.size);
+    behind.copy_from_slice(patch);
+    halve_patch(patch, shape, first.other());
+    halve_patch(behind, shape, first);
 }
 
 // Halves the patch at `start` along an axis: the half named `first` goes behind it and the other over it. It is refused, and leaves
@@ -61,6 +59,6 @@ pub fn halve<K: Number>(
     if !all_grow(&work[start..start + shape.size], u32::from(shape.degree)) {
         return Err(PatchRefusal::Growth);
     }
-    split(work, start, shape, first);
+    split(&mut work[start..start + 2 * shape.size], shape, first);
     Ok(())
 }
