@@ -1,5 +1,5 @@
 -- A patch of several blocks.
-use Rattle.std.proofs.Common.{◌≡◌, ℕ, zero, suc, ◌+◌, ◌-◌, ◌*◌, ◌/◌, ◌%◌, ◌<◌, ◌≤◌, sym, refl, ap, ◌∙◌, subst, ⊎_elim, mul-le-mul_right, mod-lt, mul_assoc, add-mul, div-add-mod', zero-mul, add-one, arith}
+use Rattle.std.proofs.Common.{◌≡◌, ℕ, zero, suc, ◌+◌, ◌-◌, ◌*◌, ◌/◌, ◌%◌, ◌<◌, ◌≤◌, sym, ap, ◌∙◌, subst, ⊎_elim, mul-le-mul_right, mod-lt, mul_assoc, add-mul, div-add-mod', zero-mul, add-one, arith}
 use mathlib.Core.Path.{fun_ext}
 use lib.Arith.{digits_div, digits_mod}
 use Rattle.std.proofs.lemmas.Bool.{cases_lt}
@@ -70,9 +70,6 @@ block_of h n s b x p l =
 pub record Done (h : Half) (n s : ℕ) (was : ℕ → Pair) (b : ℕ) (is : ℕ → Pair) : Type 0 where
   pub new : (p : ℕ) → p < b * ((n + 1) * s) → is p ≡ half_at h n s was p
   pub old : (p : ℕ) → b * ((n + 1) * s) ≤ p → is p ≡ was p
-
-pub done_none : (h : Half) (n s : ℕ) (was : ℕ → Pair) → Done h n s was 0 was
-done_none h n s was = record { new = λ p l. absurd (let z : ⊥ = omega (arith, zero-mul ((n + 1) * s)) in z); old = λ p l. refl }
 
 pub done_more : (h : Half) (n s : ℕ) (was : ℕ → Pair) (b : ℕ) (is new : ℕ → Pair) → Done h n s was b is
     → ((q : ℕ) → q < (n + 1) * s → new (b * ((n + 1) * s) + q) ≡ half_at h n s (λ q. is (b * ((n + 1) * s) + q)) q)

@@ -135,9 +135,6 @@ pub record Staged (r : Rows) (j : ℕ) (was : ℕ → Pair) (t : ℕ) (is : ℕ 
   pub new : (v i : ℕ) → v ≤ r.degree → t ≤ v → i < r.stride → is (spot r v i) ≡ sum (was (spot r v i)) (was (spot r (added_row j v) i))
   pub old : (v i : ℕ) → v ≤ r.degree → v < t → i < r.stride → is (spot r v i) ≡ was (spot r v i)
 
-pub staged_none : (r : Rows) (j : ℕ) (was : ℕ → Pair) → Staged r j was (r.degree + 1) was
-staged_none r j was = record { new = λ v i a b c. absurd (let z : ⊥ = omega arith in z); old = λ v i a b c. refl }
-
 module _ (r : Rows) (j : ℕ) (was : ℕ → Pair) (u : ℕ) (is new : ℕ → Pair) (l : u ≤ r.degree) (k : Kept (spot r u 0) (spot r u r.stride) new is) where
   -- a place in another row is not in row u
   elsewhere : (v i : ℕ) → v ≤ r.degree → (v ≡ u → ⊥) → i < r.stride → new (spot r v i) ≡ is (spot r v i)
