@@ -1,26 +1,21 @@
 -- The number of a patch's numbers, by its parts.
 use Rattle.std.proofs.Common.{◌≡◌, ℕ, zero, suc, ◌+◌, ◌-◌, ◌*◌, ◌^◌, ◌<◌, ◌≤◌, Bool, true, false, ◌&&◌, ltb, List, [], ◌∷◌, length, get_or, take, drop, Some, None, sym, refl, ap, ◌∙◌, ap₂, mul_assoc, mul_comm, one-mul, mul-one, le-mul_of_pos_right, add-one, arith, ltb-false, ltb-true, le-ltb, lt-ltb}
 use Rattle.std.specs.Bool.{then_some}
-use Rattle.std.proofs.lemmas.List.{at_drop_more, at_drop_all, take_rest}
+use Rattle.std.specs.List.{fold}
+use Rattle.std.proofs.lemmas.List.{take_rest}
 use Rattle.std.proofs.lemmas.Bool.{and_parts}
 use Rattle.algebra.specs.Layout.{numbers, stride}
 use Rattle.algebra.proofs.Places.{numbers_positive}
 use Rattle.patch.specs.Shapes.{counted, shape_of, shaped}
 use Rattle.patch.specs.declared.shape.Shape.{Shape}
 
--- ---- a loop that multiplies: `all` is the product so far
-module _ (ns : List ℕ) (i all : ℕ) (inv : all * numbers (drop i ns) ≡ numbers ns) where
-  pub count_more : i < length ns → all * (get_or ns i 0 + 1) * numbers (drop (i + 1) ns) ≡ numbers ns
-  count_more l =
-      let rest = numbers (drop (i + 1) ns) in
-      mul_assoc all (get_or ns i 0 + 1) rest ∙ ap (λ m. all * (m * rest)) (add-one (get_or ns i 0)) ∙ ap (λ m. all * m) (sym (at_drop_more numbers ns i 0 l)) ∙ inv
+-- ---- the product of the degrees, each with one added, by a fold
+pub fold_is_numbers : (a : ℕ) (ns : List ℕ) → fold (λ m n. m * (n + 1)) a ns ≡ a * numbers ns
+fold_is_numbers a [] = sym (mul-one a)
+fold_is_numbers a (n ∷ ns) = fold_is_numbers (a * (n + 1)) ns ∙ mul_assoc a (n + 1) (numbers ns) ∙ ap (λ m. a * (m * numbers ns)) (add-one n)
 
-  -- no product on the way exceeds the last
-  pub count_below : i < length ns → all * (get_or ns i 0 + 1) ≤ numbers ns
-  count_below l = omega (arith, count_more l, le-mul_of_pos_right (all * (get_or ns i 0 + 1)) (numbers_positive (drop (i + 1) ns)))
-
-  pub count_all : length ns ≤ i → all ≡ numbers ns
-  count_all l = sym (mul-one all) ∙ ap (λ m. all * m) (sym (at_drop_all numbers ns i l)) ∙ inv
+pub fold_rises : (a n : ℕ) → a ≤ a * (n + 1)
+fold_rises a n = le-mul_of_pos_right a (omega arith)
 
 -- ---- blocks, rows and strides
 pub stride_is : (ns : List ℕ) (j : ℕ) → j < length ns → numbers (drop (j + 1) ns) ≡ stride ns j
@@ -79,12 +74,9 @@ of_no_count ns e = ltb-false (numbers ns) (2 ^ 64) (none_is (ltb (numbers ns) (2
 pub shaped_is : (ns : List ℕ) (j : ℕ) (s : Shape) → j < length ns → numbers ns < 2 ^ 64 → s ≡ shape_of ns j → Some s ≡ shaped ns j
 shaped_is ns j s l n e = ap Some e ∙ ap₂ (λ a b. then_some (a && b) (shape_of ns j)) (sym (lt-ltb j (length ns) l)) (sym (lt-ltb (numbers ns) (2 ^ 64) n))
 
--- what a shape says, and what it means that there is none
+-- what a shape says
 pub of_shape : (ns : List ℕ) (j : ℕ) (s : Shape) → Some s ≡ shaped ns j → (j < length ns) × (numbers ns < 2 ^ 64) × (s ≡ shape_of ns j)
 of_shape ns j s e =
     let h = some_is (ltb j (length ns) && ltb (numbers ns) (2 ^ 64)) s (shape_of ns j) e in
     let p = and_parts (ltb j (length ns)) (ltb (numbers ns) (2 ^ 64)) h.0 in
     (ltb-true j (length ns) p.0, ltb-true (numbers ns) (2 ^ 64) p.1, h.1)
-
-pub of_no_shape : (ns : List ℕ) (j : ℕ) → None ≡ shaped ns j → (ltb j (length ns) && ltb (numbers ns) (2 ^ 64)) ≡ false
-of_no_shape ns j e = none_is (ltb j (length ns) && ltb (numbers ns) (2 ^ 64)) (shape_of ns j) e

@@ -1,11 +1,11 @@
 -- Rows of a block: where they stand, what a sweep leaves, and what the sweeps come to.
-use Rattle.std.proofs.Common.{◌≡◌, ℕ, zero, suc, ◌+◌, ◌-◌, ◌*◌, ◌<◌, ◌≤◌, true, ◌⊎◌, [], ◌∷◌, pos, sym, refl, ap, ◌∙◌, subst, ap₂, inl, inr, ⊎_elim, mul-le-mul_right, suc-mul, add-one, arith}
+use Rattle.std.proofs.Common.{◌≡◌, ℕ, zero, suc, ◌+◌, ◌-◌, ◌*◌, ◌<◌, ◌≤◌, min, true, ◌⊎◌, [], ◌∷◌, pos, sym, refl, ap, ◌∙◌, subst, ap₂, inl, inr, ⊎_elim, mul-le-mul_right, suc-mul, add-one, arith}
 use Rattle.std.proofs.lemmas.Bool.Decides.{nat_tests, leb_tells}
 use Rattle.std.proofs.lemmas.Bool.{cases_order, cases_eq}
 use Rattle.algebra.specs.Module.{pow}
 use Rattle.algebra.specs.Pair.{Pair, pairs, sum, multiple, Within}
 use Rattle.algebra.specs.Bernstein.{binomial_sum, low}
-use Rattle.algebra.specs.Form.{half}
+use Rattle.algebra.specs.Form.{half, other}
 use Rattle.algebra.specs.declared.half.Half.{Half}
 use Rattle.algebra.specs.declared.half.Half.TheVariants.{Lower, Upper}
 use Rattle.algebra.proofs.Ring.{con}
@@ -15,7 +15,8 @@ use Rattle.algebra.proofs.Bernstein.{eval_cong}
 use Rattle.algebra.proofs.Binomial.{binomial_sum_is_eval}
 use Rattle.number.specs.Limits.{may_grow}
 use Rattle.number.proofs.Growth.{growth_within, growth_of_sum}
-use Rattle.patch.specs.Sweeps.{row_of, added_row, swept, Kept, spot}
+use Rattle.patch.specs.Sweeps.{row_of, added_row, swept, Kept, spot, farther}
+use Rattle.patch.specs.declared.sweep.Rows.{Rows}
 
 abbrev pub Grows : ℕ → ℕ → Pair → Type 0
 Grows limit n x = may_grow limit n x ≡ true
@@ -31,6 +32,10 @@ pub row_below : (h : Half) (n u : ℕ) → u ≤ n → row_of h n u ≤ n
 row_below Lower n u l = l
 row_below Upper n u l = omega arith
 
+pub twice_row : (h : Half) (n u : ℕ) → u ≤ n → row_of h n (row_of h n u) ≡ u
+twice_row Lower n u l = refl
+twice_row Upper n u l = omega arith
+
 -- two rows are one, or one ends before the other
 pub rows_apart : (h : Half) (n s u v : ℕ) → u ≤ n → v < u → (row_of h n u * s + s ≤ row_of h n v * s) ⊎ (row_of h n v * s + s ≤ row_of h n u * s)
 rows_apart Lower n s u v l k = inr (row_end s v u k)
@@ -44,6 +49,12 @@ added_row_is j u = grind (arith, nat_tests)
 
 pub added_row_below : (j u n : ℕ) → u ≤ n → added_row j u ≤ n
 added_row_below j u n l = ⊎_elim (λ (k : (j < u) × (added_row j u ≡ u - 1)). omega arith) (λ (k : (u ≤ j) × (added_row j u ≡ u)). omega arith) (added_row_is j u)
+
+pub added_earlier : (j u : ℕ) → j < u → added_row j u ≡ u - 1
+added_earlier j u l = grind (arith, nat_tests)
+
+pub added_itself : (j u : ℕ) → u ≤ j → added_row j u ≡ u
+added_itself j u l = grind (arith, nat_tests)
 
 cases_le : (m n : ℕ) → (m ≤ n) ⊎ (n < m)
 cases_le m n = grind (arith, leb_tells m n)
@@ -119,53 +130,75 @@ pub half_cong : (h : Half) (n k : ℕ) (f g : ℕ → Pair) → k ≤ n → ((r 
 half_cong Lower n k f g l h = ap (multiple (pow (pos 2) (n - k))) (binomial_cong k f g (λ r a. h r (omega arith)))
 half_cong Upper n k f g l h = ap (multiple (pow (pos 2) k)) (binomial_cong (n - k) (λ r. f (n - r)) (λ r. g (n - r)) (λ r a. h (n - r) (omega arith)))
 
--- ---- one sweep: what stands after t rows, from the last on
-pub record Staged (h : Half) (n s base j : ℕ) (was : ℕ → Pair) (t : ℕ) (is : ℕ → Pair) : Type 0 where
-  pub new : (u i : ℕ) → u ≤ n → n < u + t → i < s → is (spot h n s base u i) ≡ sum (was (spot h n s base u i)) (was (spot h n s base (added_row j u) i))
-  pub old : (u i : ℕ) → u + t ≤ n → i < s → is (spot h n s base u i) ≡ was (spot h n s base u i)
-  pub kept : Kept base (base + (n + 1) * s) is was
+-- ---- one sweep, from the last row on: the rows from t on have theirs, and those below are as they were
+pub record Staged (r : Rows) (j : ℕ) (was : ℕ → Pair) (t : ℕ) (is : ℕ → Pair) : Type 0 where
+  pub new : (v i : ℕ) → v ≤ r.degree → t ≤ v → i < r.stride → is (spot r v i) ≡ sum (was (spot r v i)) (was (spot r (added_row j v) i))
+  pub old : (v i : ℕ) → v ≤ r.degree → v < t → i < r.stride → is (spot r v i) ≡ was (spot r v i)
 
-pub staged_none : (h : Half) (n s base j : ℕ) (was : ℕ → Pair) → Staged h n s base j was 0 was
-staged_none h n s base j was = record { new = λ u i a b c. absurd (let z : ⊥ = omega arith in z); old = λ u i a b. refl; kept = (λ p l. refl, λ p l. refl) }
-
-module _ (h : Half) (n s base j : ℕ) (was : ℕ → Pair) (t : ℕ) (is new : ℕ → Pair) (l : t ≤ n) where
+module _ (r : Rows) (j : ℕ) (was : ℕ → Pair) (u : ℕ) (is new : ℕ → Pair) (l : u ≤ r.degree) (k : Kept (spot r u 0) (spot r u r.stride) new is) where
   -- a place in another row is not in row u
-  pub elsewhere : Kept (base + row_of h n (n - t) * s) (base + row_of h n (n - t) * s + s) new is → (v i : ℕ) → v ≤ n → (v ≡ n - t → ⊥) → i < s → new (spot h n s base v i) ≡ is (spot h n s base v i)
-  elsewhere k v i a ne b =
-      let below : (row_of h n v * s + s ≤ row_of h n (n - t) * s) → new (spot h n s base v i) ≡ is (spot h n s base v i) = λ d. k.0 (spot h n s base v i) (omega arith) in
-      let above : (row_of h n (n - t) * s + s ≤ row_of h n v * s) → new (spot h n s base v i) ≡ is (spot h n s base v i) = λ d. k.1 (spot h n s base v i) (omega arith) in
+  elsewhere : (v i : ℕ) → v ≤ r.degree → (v ≡ u → ⊥) → i < r.stride → new (spot r v i) ≡ is (spot r v i)
+  elsewhere v i a ne b =
+      let h = r.half in
+      let n = r.degree in
+      let s = r.stride in
+      let below : (row_of h n v * s + s ≤ row_of h n u * s) → new (spot r v i) ≡ is (spot r v i) = λ d. k.0 (spot r v i) (omega arith) in
+      let above : (row_of h n u * s + s ≤ row_of h n v * s) → new (spot r v i) ≡ is (spot r v i) = λ d. k.1 (spot r v i) (omega arith) in
       ⊎_elim
-      (λ (e : v ≡ n - t). absurd (ne e))
+      (λ (e : v ≡ u). absurd (ne e))
       (⊎_elim
-      (λ (d : v < n - t). ⊎_elim above below (rows_apart h n s (n - t) v (omega arith) d))
-      (λ (d : n - t < v). ⊎_elim below above (rows_apart h n s v (n - t) a d)))
-      (cases_order v (n - t))
+      (λ (d : v < u). ⊎_elim above below (rows_apart h n s u v l d))
+      (λ (d : u < v). ⊎_elim below above (rows_apart h n s v u a d)))
+      (cases_order v u)
 
-  pub staged_more : Staged h n s base j was t is → ((i : ℕ) → i < s → new (spot h n s base (n - t) i) ≡ sum (is (spot h n s base (n - t) i)) (is (spot h n s base (added_row j (n - t)) i))) → Kept (base + row_of h n (n - t) * s) (base + row_of h n (n - t) * s + s) new is → Staged h n s base j was (t + 1) new
-  staged_more st sums k =
-      let r = row_in h n s (n - t) (omega arith) in
-      record {
-        new = λ v i a b c.
-            ⊎_elim
-            (λ (e : v ≡ n - t). subst (λ v. new (spot h n s base v i) ≡ sum (was (spot h n s base v i)) (was (spot h n s base (added_row j v) i))) (sym e) (sums i c ∙ both (st.old (n - t) i (omega arith) c) (st.old (added_row j (n - t)) i (let w = added_row_below j (n - t) (n - t) (omega arith) in omega arith) c)))
-            (λ (ne : v ≡ n - t → ⊥). elsewhere k v i a ne c ∙ st.new v i a (omega arith) c)
-            (cases_eq v (n - t));
-        old = λ v i a c. elsewhere k v i (omega arith) (λ e. let z : ⊥ = omega arith in z) c ∙ st.old v i (omega arith) c;
-        kept = (λ p d. k.0 p (omega arith) ∙ st.kept.0 p d, λ p d. k.1 p (omega arith) ∙ st.kept.1 p d);
-      }
+  pub staged_more : Staged r j was (u + 1) is → ((i : ℕ) → i < r.stride → new (spot r u i) ≡ sum (is (spot r u i)) (is (spot r (added_row j u) i))) → Staged r j was u new
+  staged_more st sums = record {
+    new = λ v i a b c.
+        ⊎_elim
+        (λ (e : v ≡ u).
+        let w = added_row_below j u u (omega arith) in
+        subst (λ v. new (spot r v i) ≡ sum (was (spot r v i)) (was (spot r (added_row j v) i))) (sym e) (sums i c ∙ both (st.old u i l (omega arith) c) (st.old (added_row j u) i (omega arith) (omega arith) c)))
+        (λ (ne : v ≡ u → ⊥). elsewhere v i a ne c ∙ st.new v i a (omega arith) c)
+        (cases_eq v u);
+    old = λ v i a b c. elsewhere v i a (λ e. let z : ⊥ = omega arith in z) c ∙ st.old v i a (omega arith) c;
+  }
 
--- a fact of two numbers, of those that equal them
-pub moved : (P : ℕ → ℕ → Type 0) {a a' b b' : ℕ} → a ≡ a' → b ≡ b' → P a b → P a' b'
-moved P {a} {a'} {b} {b'} e h t = subst (λ a. P a b') e (subst (λ b. P a b) h t)
+-- ---- two rows that stand side by side, the first of them at `at`
+pub farther_below : (h : Half) (s i : ℕ) → i < s → farther h s i < 2 * s
+farther_below Lower s i l = omega arith
+farther_below Upper s i l = omega arith
 
-pub row_fits : (h : Half) (n s base a u len : ℕ) → a ≡ row_of h n u → u ≤ n → base + (n + 1) * s ≤ len → base + a * s + s ≤ len
-row_fits h n s base a u len e l f = omega (arith, row_in h n s u l, ap (λ x. x * s) e)
+module _ (n s u at : ℕ) (some : 0 < u) (below : u ≤ n) where
+  pub row_is : (h : Half) → at ≡ min (row_of h n u * s) (row_of h n (u - 1) * s) → (i : ℕ) → row_of h n u * s + i ≡ at + farther h s i
+  row_is Lower e i = let k : u ≡ u - 1 + 1 = omega arith in let w = ap (λ v. v * s) k ∙ next_row s (u - 1) in omega arith
+  row_is Upper e i = let k : n - (u - 1) ≡ n - u + 1 = omega arith in let w = ap (λ v. v * s) k ∙ next_row s (n - u) in omega arith
 
-pub read_apart : (h : Half) (n s base j u : ℕ) → u ≤ n → (base + row_of h n u * s ≤ base + row_of h n (added_row j u) * s) ⊎ (base + row_of h n (added_row j u) * s + s ≤ base + row_of h n u * s)
-read_apart h n s base j u l =
-    ⊎_elim
-    (λ (k : (j < u) × (added_row j u ≡ u - 1)).
-    let e : row_of h n (added_row j u) * s ≡ row_of h n (u - 1) * s = ap (λ v. row_of h n v * s) k.1 in
-    ⊎_elim (λ (a : row_of h n u * s + s ≤ row_of h n (u - 1) * s). inl (omega arith)) (λ (a : row_of h n (u - 1) * s + s ≤ row_of h n u * s). inr (omega arith)) (rows_apart h n s u (u - 1) l (omega arith)))
-    (λ (k : (u ≤ j) × (added_row j u ≡ u)). let e : row_of h n (added_row j u) * s ≡ row_of h n u * s = ap (λ v. row_of h n v * s) k.1 in inl (omega arith))
-    (added_row_is j u)
+  pub row_before_is : (h : Half) → at ≡ min (row_of h n u * s) (row_of h n (u - 1) * s) → (i : ℕ) → row_of h n (u - 1) * s + i ≡ at + farther (other h) s i
+  row_before_is Lower e i = let k : u ≡ u - 1 + 1 = omega arith in let w = ap (λ v. v * s) k ∙ next_row s (u - 1) in omega arith
+  row_before_is Upper e i = let k : n - (u - 1) ≡ n - u + 1 = omega arith in let w = ap (λ v. v * s) k ∙ next_row s (n - u) in omega arith
+
+  pub two_fit : (h : Half) → at ≡ min (row_of h n u * s) (row_of h n (u - 1) * s) → at + 2 * s ≤ (n + 1) * s
+  two_fit h e =
+      let a = row_in h n s u below in
+      let b = row_in h n s (u - 1) (omega arith) in
+      let p = row_is h e 0 in
+      let q = row_before_is h e 0 in
+      ⊎_elim
+      (λ (d : row_of h n u * s + s ≤ row_of h n (u - 1) * s). omega arith)
+      (λ (d : row_of h n (u - 1) * s + s ≤ row_of h n u * s). omega arith)
+      (rows_apart h n s u (u - 1) below (omega arith))
+
+-- where the row is written and the other is as it was
+pub only_farther : (h : Half) (s at : ℕ) (new old : ℕ → Pair) → Kept at (at + 2 * s) new old → ((i : ℕ) → i < s → new (at + farther (other h) s i) ≡ old (at + farther (other h) s i)) → Kept (at + farther h s 0) (at + farther h s s) new old
+only_farther Lower s at new old k e = (
+  λ p l. ⊎_elim (λ (a : at ≤ p). let q : at + (p - at) ≡ p = omega arith in subst (λ p. new p ≡ old p) q (e (p - at) (omega arith))) (λ (b : p < at). k.0 p b) (cases_le at p),
+  λ p l. k.1 p (omega arith),
+)
+only_farther Upper s at new old k e = (
+  λ p l. k.0 p (omega arith),
+  λ p l.
+      ⊎_elim
+      (λ (a : at + 2 * s ≤ p). k.1 p a)
+      (λ (b : p < at + 2 * s). let q : at + (s + (p - (at + s))) ≡ p = omega arith in subst (λ p. new p ≡ old p) q (e (p - (at + s)) (omega arith)))
+      (cases_le (at + 2 * s) p),
+)

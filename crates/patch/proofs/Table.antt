@@ -1,5 +1,5 @@
 -- The tables of the weights and of the binomials: the rule of each as one computed equation, that rule at one place, and what the weights are.
-use Rattle.std.proofs.Common.{◌≡◌, ℕ, zero, suc, ◌+◌, ◌%◌, ◌<◌, ◌≤◌, Bool, true, ◌&&◌, eqb, ◌⊎◌, List, map, get_or, sym, refl, ap, ◌∙◌, ⊎_elim, arith}
+use Rattle.std.proofs.Common.{◌≡◌, ℕ, zero, suc, ◌+◌, ◌%◌, ◌<◌, ◌≤◌, Bool, true, false, ◌&&◌, eqb, leb, ◌⊎◌, List, map, get_or, sym, refl, ap, ◌∙◌, ⊎_elim, arith}
 use Rattle.std.specs.List.{range_with_len}
 use Rattle.std.proofs.lemmas.List.FromFn.{get_or-map-range_with_len}
 use Rattle.std.proofs.lemmas.Bool.{and_parts, eqb-true, cases_lt}
@@ -31,9 +31,9 @@ rule xs same d e p q r n k i degree row place g h j =
     ∙ square_rule (weight_of n) (square (weight_of n)) refl e q r k i row place h j
 
 -- what stands outside the table, as the code tests it
-pub outside : (n k i : ℕ) → ((1 ≤ n × n ≤ 8 × k ≤ 8 × 8 < i) ⊎ ((1 ≤ n × n ≤ 8 × 8 < k) ⊎ ((1 ≤ n × 8 < n) ⊎ (n < 1)))) → 0 ≡ weight_of n k i
+pub outside : (n k i : ℕ) (inside : Bool) → inside ≡ (leb 1 n && leb n 8) → ((inside ≡ true × k ≤ 8 × 8 < i) ⊎ ((inside ≡ true × 8 < k) ⊎ (inside ≡ false))) → 0 ≡ weight_of n k i
 unfolding weight_of
-outside n k i h = grind (arith, nat_tests)
+outside n k i inside e h = grind (arith, nat_tests)
 
 -- ---- a test that is passed by all numbers below n
 abbrev every_below : ℕ → (ℕ → Bool) → Bool

@@ -6,12 +6,7 @@ ghost use Rattle.patch.specs.Shapes.{counted};
 pub fn count(degrees: &[u8]) -> Option<usize>
     ensures { result ≡ counted degrees.now }
 {
-    let mut all: usize = 1;
-    for n in degrees {
-        match all.checked_mul(*n as usize + 1) {
-            Some(more) => all = more,
-            None => return None,
-        }
-    }
-    Some(all)
+    degrees
+        .iter()
+        .try_fold(1, |all: usize, n| all.checked_mul(usize::from(*n) + 1))
 }

@@ -18,15 +18,13 @@ impl Shape {
     pub fn along(degrees: &[u8], axis: usize) -> Option<Shape>
         ensures { result ≡ shaped degrees.now axis }
     {
-        if axis >= degrees.len() {
-            return None;
-        }
+        let degree = *degrees.get(axis)?;
         let size = count(degrees)?;
-        let blocks = count(&degrees[0..axis])?;
-        let stride = count(&degrees[axis + 1..degrees.len()])?;
+        let blocks = count(&degrees[..axis])?;
+        let stride = count(&degrees[axis + 1..])?;
         Some(Shape {
             blocks,
-            degree: degrees[axis],
+            degree,
             stride,
             size,
         })

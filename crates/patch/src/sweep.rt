@@ -1,119 +1,131 @@
 // Halving a patch in its place, by sums alone: every number gets one number added in each sweep, so it loses one doubling's room, and
 // after as many sweeps as the degree says the half stands there.
-ghost use Rattle.std.specs.Prelude.{◌≡◌, ℕ, ◌+◌, ◌-◌, ◌*◌, ◌<◌, ◌≤◌, true, ◌⊎◌, map, length};
+ghost use Rattle.std.specs.Prelude.{◌≡◌, ℕ, ◌+◌, ◌-◌, ◌*◌, ◌^◌, ◌<◌, ◌≤◌, true, map, length};
 ghost use Rattle.algebra.specs.Pair.{sum, Within};
+ghost use Rattle.algebra.specs.Form.{other};
 ghost use Rattle.number.specs.Limits.{may_grow};
-ghost use Rattle.patch.specs.Sweeps.{pair_at, row_of, added_row, swept, half_at, Kept, spot};
+ghost use Rattle.patch.specs.Judging.{all_grow};
+ghost use Rattle.patch.specs.Sweeps.{pair_at, row_of, added_row, half_at, half_of, Kept, spot, farther};
 
+use crate::shape::Shape;
 use algebra::Half;
 use number::Number;
 
-// The rows of a block are counted from the end that the half keeps, so that one text serves both halves.
-fn row(half: Half, n: usize, u: usize) -> usize
-    requires { u ≤ n }
-    ensures { (result ≡ row_of half n u) × (result ≤ n) }
-{
-    match half {
-        Half::Lower => u,
-        Half::Upper => n - u,
+// A block is degree + 1 rows of `stride` numbers each. Its rows are counted from the end that the half keeps, so that one text serves
+// both halves.
+#[derive(Clone, Copy)]
+struct Rows {
+    degree: usize,
+    stride: usize,
+    half: Half,
+}
+
+impl Rows {
+    // Where row u begins in its block.
+    fn start(self, u: usize) -> usize
+        requires row { u ≤ self.degree }
+        requires fits { (self.degree + 1) * self.stride < 2 ^ 64 }
+        ensures { result ≡ row_of self.half self.degree u * self.stride }
+    {
+        match self.half {
+            Half::Lower => u * self.stride,
+            Half::Upper => (self.degree - u) * self.stride,
+        }
     }
 }
 
-// The row that is added to row u in sweep j.
-fn before(j: usize, u: usize) -> usize
-    ensures { result ≡ added_row j u }
+// Adds to each number of a row that of another.
+fn add_row<K: Number>(row: &mut [K], other: &[K])
+    requires alike { length row.old ≡ length other.now }
+    requires small { (i : ℕ) → i < length row.old → Within K.limit (sum (pair_at (map K.means row.old) i) (pair_at (map K.means other.now) i)) }
+    ensures { (i : ℕ) → i < length row.old → pair_at (map K.means row.new) i ≡ sum (pair_at (map K.means row.old) i) (pair_at (map K.means other.now) i) }
 {
-    if j < u { u - 1 } else { u }
-}
-
-// Adds to each number of a row that of another: a later one, or one that ends before it.
-fn add_other_row<K: Number>(work: &mut [K], to: usize, from: usize, stride: usize)
-    requires fits { (to + stride ≤ length work.old) × (from + stride ≤ length work.old) }
-    requires apart { (to ≤ from) ⊎ (from + stride ≤ to) }
-    requires small { (i : ℕ) → i < stride → Within K.limit (sum (pair_at (map K.means work.old) (to + i)) (pair_at (map K.means work.old) (from + i))) }
-    ensures sums { (i : ℕ) → i < stride → pair_at (map K.means work.new) (to + i) ≡ sum (pair_at (map K.means work.old) (to + i)) (pair_at (map K.means work.old) (from + i)) }
-    ensures kept { Kept to (to + stride) (pair_at (map K.means work.new)) (pair_at (map K.means work.old)) }
-{
-    for i in 0..stride {
-        work[to + i] = work[to + i].add(work[from + i]);
+    for (i, x) in row.iter_mut().enumerate() {
+        *x = x.add(other[i]);
     }
 }
 
 // Adds each number of a row to itself.
-fn double_row<K: Number>(work: &mut [K], to: usize, stride: usize)
-    requires fits { to + stride ≤ length work.old }
-    requires small { (i : ℕ) → i < stride → Within K.limit (sum (pair_at (map K.means work.old) (to + i)) (pair_at (map K.means work.old) (to + i))) }
-    ensures sums { (i : ℕ) → i < stride → pair_at (map K.means work.new) (to + i) ≡ sum (pair_at (map K.means work.old) (to + i)) (pair_at (map K.means work.old) (to + i)) }
-    ensures kept { Kept to (to + stride) (pair_at (map K.means work.new)) (pair_at (map K.means work.old)) }
+fn double_row<K: Number>(row: &mut [K])
+    requires { (i : ℕ) → i < length row.old → Within K.limit (sum (pair_at (map K.means row.old) i) (pair_at (map K.means row.old) i)) }
+    ensures { (i : ℕ) → i < length row.old → pair_at (map K.means row.new) i ≡ sum (pair_at (map K.means row.old) i) (pair_at (map K.means row.old) i) }
 {
-    for i in 0..stride {
-        let x = work[to + i];
-        work[to + i] = x.add(x);
+    for x in row.iter_mut() {
+        *x = x.add(*x);
     }
 }
 
-// Adds one row to another or to itself, by two loops that a compiler can each turn into vectors.
-fn add_row<K: Number>(work: &mut [K], to: usize, from: usize, stride: usize)
-    requires fits { (to + stride ≤ length work.old) × (from + stride ≤ length work.old) }
-    requires apart { (to ≤ from) ⊎ (from + stride ≤ to) }
-    requires small { (i : ℕ) → i < stride → Within K.limit (sum (pair_at (map K.means work.old) (to + i)) (pair_at (map K.means work.old) (from + i))) }
-    ensures sums { (i : ℕ) → i < stride → pair_at (map K.means work.new) (to + i) ≡ sum (pair_at (map K.means work.old) (to + i)) (pair_at (map K.means work.old) (from + i)) }
-    ensures kept { Kept to (to + stride) (pair_at (map K.means work.new)) (pair_at (map K.means work.old)) }
+// Adds to one of two neighbouring rows the other, which is the nearer to the end that the half keeps.
+fn add_beside<K: Number>(two: &mut [K], stride: usize, half: Half)
+    requires whole { length two.old ≡ stride + stride }
+    requires small { (i : ℕ) → i < stride → Within K.limit (sum (pair_at (map K.means two.old) (farther half stride i)) (pair_at (map K.means two.old) (farther (other half) stride i))) }
+    ensures sums { (i : ℕ) → i < stride → pair_at (map K.means two.new) (farther half stride i) ≡ sum (pair_at (map K.means two.old) (farther half stride i)) (pair_at (map K.means two.old) (farther (other half) stride i)) }
+    ensures kept { (i : ℕ) → i < stride → pair_at (map K.means two.new) (farther (other half) stride i) ≡ pair_at (map K.means two.old) (farther (other half) stride i) }
 {
-    if to == from {
-        double_row(work, to, stride);
+    let (low, high) = two.split_at_mut(stride);
+    match half {
+        Half::Lower => add_row(high, low),
+        Half::Upper => add_row(low, high),
+    }
+}
+
+// Row u in sweep j: the row before it, which stands beside it, is added to it, or to the first j + 1 rows they themselves.
+fn sweep_row<K: Number>(block: &mut [K], rows: Rows, j: usize, u: usize)
+    requires row { u ≤ rows.degree }
+    requires whole { length block.old ≡ (rows.degree + 1) * rows.stride }
+    requires small { (i : ℕ) → i < rows.stride → Within K.limit (sum (pair_at (map K.means block.old) (spot rows u i)) (pair_at (map K.means block.old) (spot rows (added_row j u) i))) }
+    ensures sums { (i : ℕ) → i < rows.stride → pair_at (map K.means block.new) (spot rows u i) ≡ sum (pair_at (map K.means block.old) (spot rows u i)) (pair_at (map K.means block.old) (spot rows (added_row j u) i)) }
+    ensures kept { Kept (spot rows u 0) (spot rows u rows.stride) (pair_at (map K.means block.new)) (pair_at (map K.means block.old)) }
+{
+    let to = rows.start(u);
+    if j < u {
+        let both = to.min(rows.start(u - 1));
+        add_beside(
+            &mut block[both..both + 2 * rows.stride],
+            rows.stride,
+            rows.half,
+        );
     } else {
-        add_other_row(work, to, from, stride);
+        double_row(&mut block[to..to + rows.stride]);
     }
 }
 
-// Sweep j over a block: from the last row on each row gets the one before it added, and the first j + 1 rows themselves.
-fn sweep<K: Number>(work: &mut [K], start: usize, n: usize, stride: usize, half: Half, j: usize)
-    requires fits { start + (n + 1) * stride ≤ length work.old }
-    requires some { 0 < stride }
-    requires small { (u v i : ℕ) → u ≤ n → v ≤ n → i < stride → Within K.limit (sum (pair_at (map K.means work.old) (spot half n stride start u i)) (pair_at (map K.means work.old) (spot half n stride start v i))) }
-    ensures sums { (u i : ℕ) → u ≤ n → i < stride → pair_at (map K.means work.new) (spot half n stride start u i) ≡ sum (pair_at (map K.means work.old) (spot half n stride start u i)) (pair_at (map K.means work.old) (spot half n stride start (added_row j u) i)) }
-    ensures kept { Kept start (start + (n + 1) * stride) (pair_at (map K.means work.new)) (pair_at (map K.means work.old)) }
+// Sweep j over a block, from its last row on, so that each row still finds the one before it as that was.
+fn sweep<K: Number>(block: &mut [K], rows: Rows, j: usize)
+    requires whole { length block.old ≡ (rows.degree + 1) * rows.stride }
+    requires small { (u v i : ℕ) → u ≤ rows.degree → v ≤ rows.degree → i < rows.stride → Within K.limit (sum (pair_at (map K.means block.old) (spot rows u i)) (pair_at (map K.means block.old) (spot rows v i))) }
+    ensures { (u i : ℕ) → u ≤ rows.degree → i < rows.stride → pair_at (map K.means block.new) (spot rows u i) ≡ sum (pair_at (map K.means block.old) (spot rows u i)) (pair_at (map K.means block.old) (spot rows (added_row j u) i)) }
 {
-    for t in 0..n + 1 {
-        let u = n - t;
-        let v = before(j, u);
-        let to = start + row(half, n, u) * stride;
-        let from = start + row(half, n, v) * stride;
-        add_row(work, to, from, stride);
+    for u in (0..=rows.degree).rev() {
+        sweep_row(block, rows, j, u);
     }
 }
 
 // Halves one block.
-fn halve_block<K: Number>(work: &mut [K], start: usize, n: usize, stride: usize, half: Half)
-    requires fits { start + (n + 1) * stride ≤ length work.old }
-    requires some { 0 < stride }
-    requires small { (u i : ℕ) → u ≤ n → i < stride → may_grow K.limit n (pair_at (map K.means work.old) (spot half n stride start u i)) ≡ true }
-    ensures halved { (u i : ℕ) → u ≤ n → i < stride → pair_at (map K.means work.new) (spot half n stride start u i) ≡ swept (λ r. pair_at (map K.means work.old) (spot half n stride start r i)) n u }
-    ensures kept { Kept start (start + (n + 1) * stride) (pair_at (map K.means work.new)) (pair_at (map K.means work.old)) }
+fn halve_block<K: Number>(block: &mut [K], rows: Rows)
+    requires whole { length block.old ≡ (rows.degree + 1) * rows.stride }
+    requires small { (p : ℕ) → p < length block.old → may_grow K.limit rows.degree (pair_at (map K.means block.old) p) ≡ true }
+    ensures { (p : ℕ) → p < length block.old → pair_at (map K.means block.new) p ≡ half_at rows.half rows.degree rows.stride (pair_at (map K.means block.old)) p }
 {
-    for j in 0..n {
-        sweep(work, start, n, stride, half, j);
+    for j in 0..rows.degree {
+        sweep(block, rows, j);
     }
 }
 
-// Halves the patch of so many blocks that stands at `start`, in its place.
-pub(crate) fn halve_patch<K: Number>(
-    work: &mut [K],
-    start: usize,
-    blocks: usize,
-    n: usize,
-    stride: usize,
-    half: Half,
-)
-    requires degree { n < 256 }
-    requires fits { start + blocks * ((n + 1) * stride) ≤ length work.old }
-    requires some { 0 < stride }
-    requires small { (p : ℕ) → p < blocks * ((n + 1) * stride) → may_grow K.limit n (pair_at (map K.means work.old) (start + p)) ≡ true }
-    ensures halved { (p : ℕ) → p < blocks * ((n + 1) * stride) → pair_at (map K.means work.new) (start + p) ≡ half_at half n stride (λ q. pair_at (map K.means work.old) (start + q)) p }
-    ensures kept { Kept start (start + blocks * ((n + 1) * stride)) (pair_at (map K.means work.new)) (pair_at (map K.means work.old)) }
+// Halves a patch in its place.
+pub(crate) fn halve_patch<K: Number>(patch: &mut [K], shape: Shape, half: Half)
+    requires some { 0 < shape.blocks }
+    requires whole { length patch.old ≡ shape.blocks * ((shape.degree + 1) * shape.stride) }
+    requires small { all_grow K.limit shape.degree (map K.means patch.old) ≡ true }
+    ensures { map K.means patch.new ≡ half_of half shape.degree shape.stride (map K.means patch.old) }
 {
-    for b in 0..blocks {
-        halve_block(work, start + b * ((n + 1) * stride), n, stride, half);
+    let rows = Rows {
+        degree: usize::from(shape.degree),
+        stride: shape.stride,
+        half,
+    };
+    let size = (rows.degree + 1) * rows.stride;
+    for b in 0..shape.blocks {
+        halve_block(&mut patch[b * size..(b + 1) * size], rows);
     }
 }

@@ -98,7 +98,7 @@ const WEIGHTS: [[[u16; 9]; 9]; 8] = [
 pub(crate) fn weight(n: u8, k: u8, i: u8) -> i64
     ensures { result ≡ pos (weight_of n k i) }
 {
-    if 1 <= n && n <= 8 && k <= 8 && i <= 8 {
+    if (1..=8).contains(&n) && k <= 8 && i <= 8 {
         i64::from(WEIGHTS[usize::from(n) - 1][usize::from(k)][usize::from(i)])
     } else {
         0

@@ -4,6 +4,4 @@ use Rattle.patch.proofs.Blocks.{Done}
 use Rattle.patch.proofs.sweep.halve_patch.Given as goal
 
 abbrev pub invariant-loop-b : goal.invariant-loop-b
-invariant-loop-b g l =
-    let m = g.K.Number in
-    Done l.half l.n l.stride l.start (pair_at (map m.means l.initial.work)) l.b (pair_at (map m.means l.work))
+invariant-loop-b g l = Done l.rows.half l.rows.degree l.rows.stride (pair_at (map g.K.Number.means l.initial.patch)) l.b (pair_at (map g.K.Number.means l.patch))
