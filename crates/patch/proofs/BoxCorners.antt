@@ -1,5 +1,6 @@
 -- Corners, axis by axis, and their numbers.
 use Rattle.std.proofs.Common.{◌≡◌, ℕ, zero, suc, ◌+◌, ◌-◌, ◌*◌, ◌/◌, ◌%◌, ◌^◌, ◌<◌, ◌≤◌, Bool, true, false, cond, ◌&&◌, List, [], ◌∷◌, map, length, get_or, drop, Some, None, Option, sym, refl, ap, ◌∙◌, ap₂, ⊎_elim, mod-lt, mod-eq_of_lt, mul_assoc, mul_comm, add-mul, mul-le-mul_left, one-mul, mul-one, add-one, arith, pow_pos, pow_mono, pow-add}
+use Rattle.std.specs.List.{find}
 use native.Mathlib.Nat.{pow-succ', add-mul-div_left, add-mul-mod_self_left, mod-one, div-eq_of_lt, div-eq_of_lt-le}
 use lib.Arith.{mod-mul}
 use Rattle.std.specs.Option.{option_map}
@@ -10,7 +11,7 @@ use Rattle.algebra.specs.Form.{end_index, corner_index}
 use Rattle.algebra.specs.Layout.{numbers, place_of}
 use Rattle.algebra.specs.declared.half.Half.{Half}
 use Rattle.algebra.specs.declared.half.Half.TheVariants.{Lower, Upper}
-use Rattle.patch.specs.Judging.{Ends, closed, corner_inside, corners, first_of}
+use Rattle.patch.specs.Judging.{Ends, closed, corner_inside, corners}
 use Rattle.patch.specs.Corners.{digit, rank, end_of, corner_of, Numbered}
 
 -- ---- one axis more
@@ -150,20 +151,20 @@ pub corners_are_numbered : (m : ℕ) → Numbered m
 corners_are_numbered m = record { listed = fill_by_all (corner_of m) (corners m) (2 ^ m) [] (length_corners m) (corner_at m); ranked = rank_of_corner m }
 
 -- ---- the first corner that a test accepts
-module _ (test : List Half → Bool) (m c : ℕ) (l : c < 2 ^ m) (all : Option ℕ) (inv : option_map rank (first_of test (drop c (corners m))) ≡ all) where
-  first_here : all ≡ option_map rank (cond (test (corner_of m c)) (Some (corner_of m c)) (first_of test (drop (c + 1) (corners m))))
+module _ (test : List Half → Bool) (m c : ℕ) (l : c < 2 ^ m) (all : Option ℕ) (inv : option_map rank (find test (drop c (corners m))) ≡ all) where
+  first_here : all ≡ option_map rank (cond (test (corner_of m c)) (Some (corner_of m c)) (find test (drop (c + 1) (corners m))))
   first_here =
-      sym inv ∙ at_drop_more (λ cs. option_map rank (first_of test cs)) (corners m) c [] (omega (arith, length_corners m))
-      ∙ ap (λ h. option_map rank (cond (test h) (Some h) (first_of test (drop (c + 1) (corners m))))) (corner_at m c l)
+      sym inv ∙ at_drop_more (λ cs. option_map rank (find test cs)) (corners m) c [] (omega (arith, length_corners m))
+      ∙ ap (λ h. option_map rank (cond (test h) (Some h) (find test (drop (c + 1) (corners m))))) (corner_at m c l)
 
   pub first_found : test (corner_of m c) ≡ true → Some c ≡ all
-  first_found h = sym (first_here ∙ ap (λ b. option_map rank (cond b (Some (corner_of m c)) (first_of test (drop (c + 1) (corners m))))) h ∙ ap Some (rank_of_corner m c l))
+  first_found h = sym (first_here ∙ ap (λ b. option_map rank (cond b (Some (corner_of m c)) (find test (drop (c + 1) (corners m))))) h ∙ ap Some (rank_of_corner m c l))
 
-  pub first_more : test (corner_of m c) ≡ false → option_map rank (first_of test (drop (c + 1) (corners m))) ≡ all
-  first_more h = sym (first_here ∙ ap (λ b. option_map rank (cond b (Some (corner_of m c)) (first_of test (drop (c + 1) (corners m))))) h)
+  pub first_more : test (corner_of m c) ≡ false → option_map rank (find test (drop (c + 1) (corners m))) ≡ all
+  first_more h = sym (first_here ∙ ap (λ b. option_map rank (cond b (Some (corner_of m c)) (find test (drop (c + 1) (corners m))))) h)
 
-pub first_none : (test : List Half → Bool) (m c : ℕ) (all : Option ℕ) → 2 ^ m ≤ c → option_map rank (first_of test (drop c (corners m))) ≡ all → None ≡ all
-first_none test m c all l inv = sym (at_drop_all (λ cs. option_map rank (first_of test cs)) (corners m) c (omega (arith, length_corners m))) ∙ inv
+pub first_none : (test : List Half → Bool) (m c : ℕ) (all : Option ℕ) → 2 ^ m ≤ c → option_map rank (find test (drop c (corners m))) ≡ all → None ≡ all
+first_none test m c all l inv = sym (at_drop_all (λ cs. option_map rank (find test cs)) (corners m) c (omega (arith, length_corners m))) ∙ inv
 
 -- the machine's count of the corners of four axes at most
 pub all_corners : (m : ℕ) → m ≤ 4 → 1 * 2 ^ m % 4294967296 ≡ 2 ^ m

@@ -13,7 +13,6 @@ pub mod Rows
 pub mod Counting
 pub mod Slots
 pub mod Stretches
-pub mod Tests
 pub mod Writing
 pub mod Table
 pub mod Words

@@ -1,6 +1,6 @@
 -- The patch that a ticket's polynomial has on the whole box, and the inequality turned so that it asks for more than 0.
 use Rattle.std.specs.Prelude.{◌≡◌, ℕ, ◌<◌, ◌≤◌, Bool, true, cond, ◌&&◌, List, [], ◌∷◌, map, length, take, drop, ℤ, pos, ◌*ℤ◌, neg_ℤ, Result, Ok, Err, nat_le, slice_index}
-use Rattle.std.specs.List.{range_with_len}
+use Rattle.std.specs.List.{list_all, range_with_len}
 use Rattle.algebra.specs.Bernstein.{of_power}
 use Rattle.algebra.specs.Layout.{numbers, index_of}
 use Rattle.algebra.specs.Pair.{Pair, pair, opposite}
@@ -10,7 +10,6 @@ use Rattle.ticket.specs.declared.records.Axis.{Axis}
 use Rattle.ticket.specs.declared.records.Term.{Term}
 use Rattle.ticket.specs.declared.records.Relation.{Relation}
 use Rattle.ticket.specs.declared.records.Relation.TheVariants.{Greater, AtLeast, Less, AtMost}
-use Rattle.patch.specs.Judging.{every}
 use Rattle.patch.specs.Point.{sum_over}
 use Rattle.ticket.specs.Sizes.{common, degrees_of, rest, value_size, drift_size}
 use Rattle.patch.specs.declared.parts.Parts.{Parts}
@@ -76,7 +75,7 @@ pub record Summable (axes : List Axis) (terms : List Term) (size place : ℕ) : 
 
 -- the kind of number carries the drift of every term
 abbrev pub all_carried : Bool → List Term → Bool
-all_carried drifts terms = every (carries drifts) (map (λ t. t.drift) terms)
+all_carried drifts terms = list_all (carries drifts) (map (λ t. t.drift) terms)
 
 -- the first patch can be written: the kind carries its drifts, and there is room for it
 abbrev pub may_begin : Bool → Content → ℕ → Bool

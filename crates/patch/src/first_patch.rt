@@ -2,12 +2,12 @@
 ghost use Rattle.std.specs.Prelude.{◌≡◌, ◌<◌, ◌≤◌, true, [], ◌∷◌, length, is_some, unsigned_abs, IfOk, IfErr};
 ghost use Rattle.algebra.specs.Layout.{numbers, index_of};
 ghost use Rattle.algebra.specs.Pair.{multiple};
-ghost use Rattle.number.specs.Limits.{word, carries, made as made_pair};
+ghost use Rattle.number.specs.Limits.{word, made};
 ghost use Rattle.ticket.specs.Law.{content};
 ghost use Rattle.ticket.specs.Sizes.{degrees_of};
 ghost use Rattle.patch.specs.Conversion.{Monomial};
 ghost use Rattle.patch.specs.Point.{pair_of, sum_over};
-ghost use Rattle.patch.specs.FirstPatch.{turned as turned_content, of_powers, number_at, pair_of_parts, turned_pair, Summable, all_carried as carries_all, beginning, Begun};
+ghost use Rattle.patch.specs.FirstPatch.{turned, of_powers, number_at, pair_of_parts, turned_pair, Summable, all_carried, beginning, Begun};
 ghost use Rattle.patch.specs.Meaning.{FirstPatchRepresents, WholeCovers};
 ghost use Rattle.patch.specs.Sizes.{FirstPatchIsBounded};
 
@@ -87,7 +87,7 @@ fn turned(relation: Relation, parts: Parts) -> Parts
 fn number_at(ticket: &SizedTicket, size: usize, place: usize) -> Parts
     requires whole { size ≡ numbers (degrees_of (content ticket.now.ticket).axes) }
     requires inside { place < size }
-    ensures { pair_of_parts result ≡ number_at (turned_content (content ticket.now.ticket)) place }
+    ensures { pair_of_parts result ≡ number_at (turned (content ticket.now.ticket)) place }
 {
     let axes = ticket.ticket.axes.as_slice();
     let terms = ticket.ticket.terms.as_slice();
@@ -96,7 +96,7 @@ fn number_at(ticket: &SizedTicket, size: usize, place: usize) -> Parts
 
 // A number of its parts, where the kind can make it.
 fn made<K: Number>(parts: Parts) -> K
-    requires { is_some (made_pair K.drifts parts.value parts.drift) ≡ true }
+    requires { is_some (made K.drifts parts.value parts.drift) ≡ true }
     ensures { K.means result ≡ pair_of_parts parts }
 {
     match K::make(parts.value, parts.drift) {
@@ -105,29 +105,12 @@ fn made<K: Number>(parts: Parts) -> K
     }
 }
 
-// Whether a kind of number carries drift: exactly then it makes a number that drifts.
-fn carries_drift<K: Number>() -> bool
-    ensures { result ≡ K.drifts }
+// Whether a kind of number carries the drifts of the terms. Exactly a kind that carries drifts makes a number that drifts.
+fn all_carried<K: Number>(terms: &[Term]) -> bool
+    ensures { result ≡ all_carried K.drifts terms.now }
 {
-    K::make(0, 1).is_some()
-}
-
-// Whether a kind that drifts or not carries the drift of a term.
-fn is_carried(drifts: bool, term: &Term) -> bool
-    ensures { result ≡ carries drifts term.now.drift }
-{
-    drifts || term.drift == 0
-}
-
-fn all_carried(drifts: bool, terms: &[Term]) -> bool
-    ensures { result ≡ carries_all drifts terms.now }
-{
-    for term in terms {
-        if !is_carried(drifts, term) {
-            return false;
-        }
-    }
-    true
+    let drifts = K::make(0, 1).is_some();
+    terms.iter().all(|t| t.is_carried(drifts))
 }
 
 // Writes the first patch of a ticket at the start of a workspace. A workspace is left as it is if the kind of number does not carry
@@ -145,7 +128,7 @@ pub fn write_first_patch<K: Number>(
     ensures bounded { FirstPatchIsBounded }
 {
     let size = ticket.sizes().patch;
-    if !all_carried(carries_drift::<K>(), ticket.ticket.terms.as_slice()) {
+    if !all_carried::<K>(ticket.ticket.terms.as_slice()) {
         return Err(PatchRefusal::Drift);
     }
     if work.len() < size {

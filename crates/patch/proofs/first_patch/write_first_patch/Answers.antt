@@ -14,7 +14,7 @@ use Rattle.patch.proofs.first_patch.write_first_patch.Goals as goal
 pub returns-then-not-all_carried : goal.returns-then-not-all_carried
 returns-then-not-all_carried g c =
     let t = content c.args.ticket.now.ticket in
-    let carried : all_carried g.K.Number.drifts t.terms ≡ false = sym (c.all_carried.ensures ∙ (λ i. all_carried (c.carries_drift.ensures i) (c.as_slice.ensures.value i))) ∙ c.if-not-all_carried.true in
+    let carried : all_carried g.K.Number.drifts t.terms ≡ false = sym (c.all_carried.ensures ∙ ap (all_carried g.K.Number.drifts) c.as_slice.ensures.value) ∙ c.if-not-all_carried.true in
     record {
       answer = drift_refused g.K.Number.drifts t (length c.args.work.now) carried;
       begun = tt;
@@ -29,7 +29,7 @@ returns-then-work-size g c =
     let t = content c.args.ticket.now.ticket in
     let size = ap (λ s. s.patch) c.sizes-size.ensures in
     let short = c.if-work-size.true in
-    let carried : all_carried g.K.Number.drifts t.terms ≡ true = sym (c.all_carried.ensures ∙ (λ i. all_carried (c.carries_drift.ensures i) (c.as_slice.ensures.value i))) ∙ c.if-not-all_carried.false in
+    let carried : all_carried g.K.Number.drifts t.terms ≡ true = sym (c.all_carried.ensures ∙ ap (all_carried g.K.Number.drifts) c.as_slice.ensures.value) ∙ c.if-not-all_carried.false in
     record {
       answer = room_refused g.K.Number.drifts t (length c.args.work.now) carried (omega arith);
       begun = tt;
@@ -46,7 +46,7 @@ pub made-requires : goal.made-requires
 made-requires g c =
     let t = c.args.ticket.now in
     number_made g.K.Number.drifts (content t.ticket) c.sizes-size.result.patch c.loop-place.place (pair_of_parts c.number_at.result) t.ticket.formed t.small (ap (λ s. s.patch) c.sizes-size.ensures) c.loop-place-test.true
-    (sym (c.all_carried.ensures ∙ (λ i. all_carried (c.carries_drift.ensures i) (c.as_slice.ensures.value i))) ∙ c.if-not-all_carried.false)
+    (sym (c.all_carried.ensures ∙ ap (all_carried g.K.Number.drifts) c.as_slice.ensures.value) ∙ c.if-not-all_carried.false)
     c.number_at.ensures
 
 pub loop-place-init : goal.loop-place-init
@@ -64,7 +64,7 @@ returns g c =
     let size = ap (λ s. s.patch) c.sizes-size.ensures in
     let all : c.loop-place.place ≡ numbers (degrees_of t.axes) = omega arith in
     let fits : numbers (degrees_of t.axes) ≤ length c.args.work.now = omega arith in
-    let carried : all_carried g.K.Number.drifts t.terms ≡ true = sym (c.all_carried.ensures ∙ (λ i. all_carried (c.carries_drift.ensures i) (c.as_slice.ensures.value i))) ∙ c.if-not-all_carried.false in
+    let carried : all_carried g.K.Number.drifts t.terms ≡ true = sym (c.all_carried.ensures ∙ ap (all_carried g.K.Number.drifts) c.as_slice.ensures.value) ∙ c.if-not-all_carried.false in
     let filled = subst (Filled g.K.Number.means (number_at (turned t)) c.args.work.now c.loop-place.work) all c.loop-place.invariant in
     record {
       answer = begins g.K.Number.drifts t (length c.args.work.now) carried fits;
