@@ -16,6 +16,7 @@ pub mod Stretches
 pub mod Writing
 pub mod Table
 pub mod Words
+pub mod Powers
 pub mod Bounds
 pub mod Monomials
 pub mod Summing
