@@ -18,10 +18,14 @@ use Rattle.ticket.specs.declared.records.Relation.TheVariants.{Greater, AtLeast,
 use Rattle.ticket.proofs.BelowCap.{few_axes}
 use Rattle.patch.specs.Conversion.{Monomial}
 use Rattle.patch.specs.FirstPatch.{turned, turned_terms, of_powers, number_at, Summable, all_carried}
+use Rattle.patch.specs.declared.first_patch.Place.{Place}
 use Rattle.patch.specs.Point.{pair_of, sum_over}
 use Rattle.patch.proofs.Formed.{both_lists}
 use Rattle.patch.proofs.Sizes.{sum_size}
 use Rattle.patch.proofs.Turned.{sum_negated}
+
+pub at_below : (p : Place) → p.at < numbers (degrees_of p.axes.now)
+at_below p = subst (λ n. p.at < n) p.whole p.inside
 
 -- ---- one term
 module _ (axes : List Axis) (t : Term) (s : Summable axes (t ∷ [])) where

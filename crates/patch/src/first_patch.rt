@@ -18,7 +18,7 @@ use number::Number;
 use ticket::{Axis, Relation, SizedTicket, Term};
 
 // One of the places that the first patch has on these axes.
-#[derive(Clone, Copy)]
+#[derive(Drop)]
 struct Place<'a> {
     axes: &'a [Axis],
     size: usize,
@@ -71,7 +71,7 @@ impl Place<'_> {
     {
         let mut sum = Parts { value: 0, drift: 0 };
         for term in terms {
-            sum = sum + self.term(term);
+            sum += self.term(term);
         }
         sum
     }

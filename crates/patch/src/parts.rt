@@ -5,7 +5,7 @@ ghost use Rattle.number.specs.Limits.{word, carries};
 
 use number::Number;
 use std::marker::Model;
-use std::ops::{Add, Neg};
+use std::ops::{AddAssign, Neg};
 
 // Its value and its drift, neither larger than a word. A contract sees them as their pair.
 #[derive(Clone, Copy)]
@@ -34,18 +34,14 @@ impl Parts {
     }
 }
 
-impl Add for Parts {
-    type Output = Parts;
+impl AddAssign for Parts {
+    ghost can_add_assign = { λ x y. Within word (sum x y) };
 
-    ghost can_add = { λ x y. Within word (sum x y) };
+    ghost add_assign_gives = { λ x y z. z ≡ sum x y };
 
-    ghost add_gives = { λ x y z. z ≡ sum x y };
-
-    fn add(self, other: Parts) -> Parts {
-        Parts {
-            value: self.value + other.value,
-            drift: self.drift + other.drift,
-        }
+    fn add_assign(&mut self, other: Parts) {
+        self.value += other.value;
+        self.drift += other.drift;
     }
 }
 

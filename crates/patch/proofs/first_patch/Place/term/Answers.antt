@@ -1,11 +1,11 @@
-use Rattle.std.proofs.Common.{◌≡◌, ◌<◌, ◌≤◌, [], ◌∷◌, ℤ, ◌*ℤ◌, nat_abs, sym, ap, inl, inr, subst, le_trans, w32, of_z, rules}
-use Rattle.algebra.specs.Layout.{numbers, index_of}
+use Rattle.std.proofs.Common.{◌≡◌, ◌≤◌, [], ◌∷◌, ℤ, ◌*ℤ◌, nat_abs, sym, ap, inl, inr, subst, le_trans, w32, of_z, rules}
+use Rattle.algebra.specs.Layout.{index_of}
 use Rattle.number.specs.Limits.{word}
 use Rattle.ticket.specs.Sizes.{degrees_of}
 use Rattle.ticket.specs.declared.records.Term.{Term}
 use Rattle.patch.specs.declared.first_patch.Place.{Place}
 use Rattle.patch.specs.FirstPatch.{of_powers, Summable}
-use Rattle.patch.proofs.Summing.{monomial, part_within}
+use Rattle.patch.proofs.Summing.{at_below, monomial, part_within}
 use Rattle.patch.proofs.Words.{answer_is, widened_is, product_fits, product_is}
 use Rattle.patch.proofs.first_patch.Place.term.Goals as goal
 use Rattle.patch.proofs.first_patch.Place.term.Goals.{else-term-eq0-via-then-term-eq0+else-term-eq0-2, else-term-eq0-via-else-term-eq0}
@@ -25,14 +25,11 @@ module _ (place : Place) (t : Term) (s : Summable place.axes.now (t ∷ [])) whe
   abbrev factor : ℤ
   factor = of_powers place.axes.now t.exponents (index_of (degrees_of place.axes.now) place.at)
 
-  inside : place.at < numbers (degrees_of place.axes.now)
-  inside = subst (λ n. place.at < n) place.whole place.inside
-
   value_small : nat_abs (factor *ℤ t.coefficient) ≤ word
-  value_small = le_trans (part_within place.axes.now t s place.at inside (λ t. t.coefficient)) s.value_room
+  value_small = le_trans (part_within place.axes.now t s place.at (at_below place) (λ t. t.coefficient)) s.value_room
 
   drift_small : nat_abs (factor *ℤ t.drift) ≤ word
-  drift_small = le_trans (part_within place.axes.now t s place.at inside (λ t. t.drift)) s.drift_room
+  drift_small = le_trans (part_within place.axes.now t s place.at (at_below place) (λ t. t.drift)) s.drift_room
 
 pub overflow_mul-result : goal.overflow_mul-result
 overflow_mul-result c =
