@@ -77,10 +77,9 @@ impl<K: Number> Asked<'_, K> {
     fn sign(&self, corner: u32) -> Sign
         ensures { result ≡ sign_of (corner_number self.now.degrees.now (map K.means self.now.numbers.now) (corner_of (length self.now.degrees.now) corner)) }
     {
-        match self.numbers.get(self.place(corner)) {
-            Some(number) => number.sign(),
-            None => Sign::Zero,
-        }
+        self.numbers
+            .get(self.place(corner))
+            .map_or(Sign::Zero, |number| number.sign())
     }
 
     // Whether a corner lies in the box and violates the relation.

@@ -44,6 +44,7 @@ pub fn write_signs<K: Number>(numbers: &[K], signs: &mut [Sign]) -> Result<(), P
     if signs.len() < numbers.len() {
         return Err(PatchRefusal::Room);
     }
+    // By index: of a slice that is written through a zipped iterator a proof knows no item afterwards.
     for (i, number) in numbers.iter().enumerate() {
         signs[i] = number.sign();
     }
