@@ -4,7 +4,7 @@ ghost use Rattle.algebra.specs.Bernstein.{choose, of_power};
 ghost use Rattle.ticket.specs.Sizes.{common, reach};
 ghost use Rattle.patch.specs.Conversion.{Convertible, shifted_of, summand_of};
 
-use super::weights::weight;
+use crate::weights::weight;
 use ticket::Axis;
 
 // Pascal's triangle, up to the row 8.
@@ -67,6 +67,7 @@ impl Power {
         ensures is { result ≡ of_power (common self.axis.degree) self.axis.degree self.axis.lower self.axis.upper self.exponent k }
         ensures small { unsigned_abs result ≤ common self.axis.degree * reach self.axis ^ self.exponent }
     {
+        // Not a chain: of a signed `sum` it cannot be shown that every sum on the way fits.
         let mut sum = 0;
         for m in 0..=self.exponent {
             sum += self.summand(k, m);

@@ -69,6 +69,7 @@ impl Place<'_> {
         requires { Summable self.now.axes.now terms.now }
         ensures { result ≡ sum_over (λ t. of_powers self.now.axes.now t.exponents (index_of (degrees_of self.now.axes.now) self.now.at)) terms.now }
     {
+        // Not a chain: that the next sum fits follows from what is summed so far, which a chain's closure does not know.
         let mut sum = Parts { value: 0, drift: 0 };
         for term in terms {
             sum += self.term(term);
