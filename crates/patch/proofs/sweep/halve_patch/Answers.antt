@@ -1,6 +1,7 @@
 use Rattle.std.proofs.Common.{◌≡◌, ℕ, ◌+◌, ◌-◌, ◌*◌, ◌<◌, map, length, take, drop, sym, ap, ◌∙◌, subst, ap₂, arith}
 use Rattle.std.proofs.lemmas.List.{length-take, length-drop, length-map}
 use Rattle.std.proofs.lemmas.List.FromFn.{fill_by_all}
+use Rattle.std.proofs.lemmas.List.Sums.{AllPass-from_list_all}
 use borrow.Rule.Slice.PartMut.{put_mid}
 use Rattle.algebra.specs.Pair.{pairs}
 use Rattle.number.specs.Limits.{may_grow}
@@ -8,7 +9,6 @@ use Rattle.patch.specs.Sweeps.{pair_at, half_at, half_of}
 use Rattle.patch.proofs.Stretches.{part_at, put_at, put_kept}
 use Rattle.patch.proofs.Rows.{Grows, row_end, next_row}
 use Rattle.patch.proofs.Blocks.{done_more, block_same}
-use Rattle.patch.proofs.Tests.{every_at}
 use Rattle.patch.proofs.sweep.halve_patch.Goals as goal
 
 pub halve_block-requires-clause-small : goal.halve_block-requires-clause-small
@@ -24,7 +24,7 @@ halve_block-requires-clause-small g c = λ p l.
     let all : length c.args.patch.now ≡ c.args.shape.blocks * size = c.requires.whole ∙ ap (λ n. c.args.shape.blocks * ((n + 1) * c.args.shape.stride)) (sym c.from.ensures) in
     subst (Grows m.limit n) (sym (c.loop-b.invariant.old (first + p) (omega arith)) ∙ sym (part_at m.means first ((c.loop-b.b + 1) * size - first) c.loop-b.patch p (omega arith)))
     (subst (λ n. Grows m.limit n (old (first + p))) (sym c.from.ensures)
-    (every_at (may_grow m.limit c.args.shape.degree) (map m.means c.args.patch.now) (first + p) pairs.nought c.requires.small (omega (arith, length-map c.args.patch.now m.means))))
+    (AllPass-from_list_all (may_grow m.limit c.args.shape.degree) (map m.means c.args.patch.now) c.requires.small (first + p) pairs.nought (omega (arith, length-map c.args.patch.now m.means))))
 
 pub loop-b-preserved : goal.loop-b-preserved
 loop-b-preserved g c =
