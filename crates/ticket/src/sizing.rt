@@ -6,7 +6,7 @@ ghost use Rattle.ticket.specs.SizedLaw.{sized_content};
 ghost use Rattle.ticket.specs.Sizes.{common, reach, power_reach, patch_count, scale, size_of, value_size, drift_size, is_patch, is_sized, drifts_carried, sizing};
 ghost use Rattle.ticket.specs.declared.records.Term.{Term};
 
-use super::fault::{Fault, Refusal, check};
+use super::fault::{Fault, RecordNumber, Refusal};
 use super::records::{Axis, Term};
 use super::sized_ticket::SizedTicket;
 use super::ticket::Ticket;
@@ -120,10 +120,9 @@ impl Ticket {
         ensures { result ≡ drifts_carried drifts (length self.now.axes.items) self.now.terms.items }
     {
         let first = self.axes.len();
-        self.terms.iter().enumerate().try_for_each(|(k, term)| check(
+        self.terms.iter().enumerate().try_for_each(|(k, term)| RecordNumber(first + k).check(
             term.is_carried(drifts),
             Refusal::Drift,
-            first + k,
             12,
         ))
     }
@@ -132,8 +131,8 @@ impl Ticket {
     pub fn sized(self, drifts: bool) -> Result<SizedTicket, Fault>
         ensures { sized_content result ≡ sizing drifts (content self) }
     {
-        check(self.is_patch(), Refusal::PatchSize, 0, 0)?;
-        check(self.is_sized(), Refusal::Size, 0, 0)?;
+        RecordNumber(0).check(self.is_patch(), Refusal::PatchSize, 0)?;
+        RecordNumber(0).check(self.is_sized(), Refusal::Size, 0)?;
         self.check_drifts(drifts)?;
         Ok(SizedTicket { ticket: self })
     }

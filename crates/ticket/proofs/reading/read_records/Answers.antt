@@ -48,7 +48,7 @@ returns-clause-value c =
 pub returns-in_default-clause-value : goal.returns-in_default-clause-value
 unfolding reading
 returns-in_default-clause-value c =
-    ap Err (c.at.ensures ∙ ap (λ n. fault Turn (n - 1) 0) c.as_chunks.ensures.front_len)
+    ap Err (c.fault.ensures ∙ ap (λ n. fault Turn (n - 1) 0) c.as_chunks.ensures.front_len)
     ∙ through _ (told _ c.is_length.ensures c.in_ok-check.ensures)
     (through _ (left_none _ _ _ c.loop-at-test.false ∙ sym c.loop-at.invariant ∙ sym (apart _ _ _ _ c.as_chunks.ensures.front))
     (ap (λ q. finished q (seen c.loop-at.draft) (length c.args.bytes.now / 16)) (sym c.in_default.is)))
