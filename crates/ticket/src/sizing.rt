@@ -67,13 +67,13 @@ impl Ticket {
             .fold(1, u64::saturating_mul)
     }
 
-    pub(crate) fn patch_count(&self) -> u64
+    pub(crate) fn patch_count(&self) -> usize
         ensures { result ≡ capped (patch_count self.now.axes.items) }
     {
         self.axes
             .iter()
-            .map(|axis| u64::from(axis.degree) + 1)
-            .fold(1, u64::saturating_mul)
+            .map(|axis| usize::from(axis.degree) + 1)
+            .fold(1, usize::saturating_mul)
     }
 
     // The size of all terms, where of each this part counts.
