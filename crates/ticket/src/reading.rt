@@ -90,11 +90,7 @@ impl<'a> Reader<'a> {
     pub fn new(bytes: &'a [u8]) -> Reader<'a>
         ensures { lent result ≡ bytes.now }
     {
-        Reader {
-            bytes,
-            origin: 0,
-            end: bytes.len(),
-        }
+        Reader { bytes }
     }
 
     // The ticket, or the first fault in it.
@@ -103,8 +99,7 @@ impl<'a> Reader<'a> {
         ensures exactly { Exactly (lent self.now) result }
         ensures unambiguous { Unambiguous }
     {
-        let bytes = &self.bytes[self.origin..self.end];
-        let (draft, question) = read_records(bytes)?;
+        let (draft, question) = read_records(self.bytes)?;
         let axes = Vec::from_slice(heap, &draft.axes)?;
         let terms = Vec::from_slice(heap, &draft.terms)?;
         Ok(Ticket {
