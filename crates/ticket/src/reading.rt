@@ -13,7 +13,7 @@ use super::records::{Question, Record};
 use super::ticket::Ticket;
 use std::alloc::Global;
 
-// A record of sixteen bytes, told by its first.
+// A record of sixteen bytes, told by its first. It is a slice and no array: of a lent array no pattern's rest is proved yet.
 fn take_record(bytes: &[u8], record: RecordNumber, draft: &Draft) -> Result<Record, Fault>
     requires { length bytes.now ≡ 16 }
     ensures value { result ≡ record_of «record».0 (seen draft.now) bytes.now }

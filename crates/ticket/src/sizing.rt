@@ -1,5 +1,5 @@
 // How large a ticket is. Products and sums stop at the largest word, which is over every limit, so that none wraps.
-ghost use Rattle.std.specs.Prelude.{◌≡◌, ◌^◌, ℤ, length};
+ghost use Rattle.std.specs.Prelude.{◌≡◌, ◌*◌, ◌^◌, ℤ, length, unsigned_abs};
 ghost use Rattle.ticket.specs.Capped.{capped};
 ghost use Rattle.ticket.specs.Law.{content};
 ghost use Rattle.ticket.specs.SizedLaw.{sized_content};
@@ -55,6 +55,13 @@ impl Term {
             .map(|(axis, exponent)| power(axis.reach(), *exponent))
             .fold(1, u64::saturating_mul)
     }
+
+    // How large this part of the coefficient makes the term.
+    fn size(&self, part: i32, axes: &[Axis]) -> u64
+        ensures { result ≡ capped (unsigned_abs part * power_reach axes.now self.now.exponents) }
+    {
+        u64::from(part.unsigned_abs()).saturating_mul(self.power_reach(axes))
+    }
 }
 
 impl Ticket {
@@ -76,7 +83,7 @@ impl Ticket {
             .fold(1, usize::saturating_mul)
     }
 
-    // The size of all terms, where of each this part counts.
+    // The size of the ticket in one part of its terms.
     fn size<F: Fn(&Term) -> i32>(&self, part: F) -> u64
         requires { (state : F) (term : _) → F.pre state term }
         ensures { (p : Term → ℤ) → ((t : _) (z : ℤ) → F.post part t z → z ≡ p t.now) → result ≡ capped (size_of p self.now.axes.items self.now.terms.items) }
@@ -84,9 +91,7 @@ impl Ticket {
         let sum = self
             .terms
             .iter()
-            .map(|term| u64::from(part(term).unsigned_abs()).saturating_mul(term.power_reach(
-                &self.axes,
-            )))
+            .map(|term| term.size(part(term), &self.axes))
             .fold(0, u64::saturating_add);
         self.scale().saturating_mul(sum)
     }
@@ -115,7 +120,7 @@ impl Ticket {
         self.value_size() <= LIMIT && self.drift_size() <= LIMIT
     }
 
-    // No term, of which the first is the record behind the axes, has a drift that the kind of number does not carry.
+    // The kind of number carries the drift of each term; the first term is the record behind the axes.
     fn check_drifts(&self, drifts: bool) -> Result<(), Fault>
         ensures { result ≡ drifts_carried drifts (length self.now.axes.items) self.now.terms.items }
     {
