@@ -5,7 +5,6 @@ use mir.ValLaws.{to_z-Fits}
 use Rattle.std.proofs.lemmas.Int.{to_z-of_z, of_z-to_z}
 use Rattle.std.proofs.lemmas.Bool.{and_parts, eqb-true, leb-true, le-leb, cases_lt, false≢true}
 use Rattle.ticket.specs.Numbers.{is_end, whole, four_bytes, fits_four_bytes, lower_flag, upper_flag, flags, relation_number, relation_of}
-use Rattle.ticket.proofs.Chains.{void}
 use Rattle.ticket.specs.declared.records.Relation.{Relation}
 use Rattle.ticket.specs.declared.records.Relation.TheVariants.{Greater, AtLeast, Less, AtMost}
 
@@ -101,7 +100,7 @@ by_tests n r true b c d p q s t e = let x : Greater ≡ r = cc in ap relation_nu
 by_tests n r false true c d p q s t e = let x : AtLeast ≡ r = cc in ap relation_number (sym x) ∙ sym (eqb-true n 2 q)
 by_tests n r false false true d p q s t e = let x : Less ≡ r = cc in ap relation_number (sym x) ∙ sym (eqb-true n 3 s)
 by_tests n r false false false true p q s t e = let x : AtMost ≡ r = cc in ap relation_number (sym x) ∙ sym (eqb-true n 4 t)
-by_tests n r false false false false p q s t e = absurd (void (cc))
+by_tests n r false false false false p q s t e = cc
 
 pub relation_from : (n : ℕ) (r : Relation) → relation_of n ≡ Some r → relation_number r ≡ n
 relation_from n r e = by_tests n r (eqb n 1) (eqb n 2) (eqb n 3) (eqb n 4) refl refl refl refl e

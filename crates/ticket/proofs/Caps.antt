@@ -6,12 +6,6 @@ use Rattle.ticket.specs.Capped.{capped}
 use Rattle.ticket.specs.Sizes.{reach, power_reach}
 use Rattle.ticket.specs.declared.records.Axis.{Axis}
 
-pub cut_sum : (a b : ℕ) → capped (capped a + b) ≡ capped (a + b)
-cut_sum a b = omega arith
-
-pub cut_sum_right : (a b : ℕ) → capped (a + capped b) ≡ capped (a + b)
-cut_sum_right a b = omega arith
-
 large : (a b : ℕ) → 2 ^ 64 - 1 ≤ a → capped ((2 ^ 64 - 1) * b) ≡ capped (a * b)
 large a zero h = let e = mul-zero a in omega arith
 large a (suc b) h = let e = mul-suc a b in let f : (2 ^ 64 - 1) * suc b ≡ (2 ^ 64 - 1) * b + (2 ^ 64 - 1) = mul-suc (2 ^ 64 - 1) b in omega arith

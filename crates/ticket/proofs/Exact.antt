@@ -14,7 +14,6 @@ use Rattle.ticket.specs.declared.records.Axis.{Axis}
 use Rattle.ticket.specs.declared.records.Question.{Question}
 use Rattle.ticket.specs.declared.records.Term.{Term}
 use Rattle.ticket.specs.declared.ticket.Ticket.{Ticket}
-use Rattle.ticket.proofs.Chains.{void}
 use Rattle.ticket.proofs.Complete.{complete}
 use Rattle.ticket.proofs.Sound.{sound}
 
@@ -30,7 +29,7 @@ pub record Owed (bs : List ℕ) (r : Result Ticket Failure) : Type 0 where
   pub exactly : Exactly bs r
 
 refusing : (bs : List ℕ) (f : Fault) → reading bs ≡ Err f → Owed bs (Err (Refused f))
-refusing bs f h = record { answer = h; exactly = λ c e. void (let p = encoding_read c bs e in cc) }
+refusing bs f h = record { answer = h; exactly = λ c e. let p = encoding_read c bs e in cc }
 
 -- the exit of a `?` at a fault
 pub refused : (bs : List ℕ) {f : Fault} (r : Result Ticket Failure) → IsErrAnd r (λ y. y ≡ Refused f) → Err f ≡ reading bs → Owed bs r

@@ -10,4 +10,3 @@ pub mod Complete
 pub mod Exact
 pub mod Caps
 pub mod BelowCap
-pub mod SizedExit

@@ -18,21 +18,20 @@ use Rattle.ticket.specs.declared.records.Question.{Question}
 use Rattle.ticket.specs.declared.records.Record.{Record}
 use Rattle.ticket.specs.declared.records.Record.TheVariants.{Axis as IsAxis, Term as IsTerm, Question as IsQuestion}
 use Rattle.ticket.proofs.Bytes.{flags_back, whole_fits, four_whole, relation_from}
-use Rattle.ticket.proofs.Chains.{void}
 use Rattle.ticket.proofs.Listed.{both, all_push, by_four, by_four_more}
 
 -- ---- chains that went through
 pub next_ok : {X Y : Type 0} (r : Result X Fault) (f : X → Result Y Fault) (y : Y) → next r f ≡ Ok y → (x : X) × (r ≡ Ok x) × (f x ≡ Ok y)
 next_ok (Ok x) f y e = (x, refl, e)
-next_ok (Err k) f y e = absurd (void (cc))
+next_ok (Err k) f y e = cc
 
 pub checked_ok : (b : Bool) (f : Fault) (x : Unit {0}) → checked b f ≡ Ok x → b ≡ true
 checked_ok true f x e = refl
-checked_ok false f x e = absurd (void (cc))
+checked_ok false f x e = cc
 
 pub known_ok : {X : Type 0} (o : Option X) (f : Fault) (x : X) → known o f ≡ Ok x → o ≡ Some x
 known_ok (Some y) f x e = cc
-known_ok None f x e = absurd (void (cc))
+known_ok None f x e = cc
 
 -- bytes that were found to be zero are zero
 pub zeros_ok : (n b : ℕ) (xs : List ℕ) (x : Unit {0}) → zeros n b xs ≡ Ok x → (k : ℕ) → get_or xs k 0 ≡ 0
@@ -188,7 +187,7 @@ pub record Step (s : Seen) (b : List ℕ) (r : Record) : Type 0 where
   pub same : seen_bytes (added r s) ≡ seen_bytes s ++ b
 
 none_asked : (o : Option Question) → not (is_some o) ≡ true → o ≡ None
-none_asked (Some q) e = absurd (void (cc))
+none_asked (Some q) e = cc
 none_asked None e = refl
 
 axis_step : (n : ℕ) (s : Seen) (b : List ℕ) (r : Record) → length b ≡ 16 → Bytes b → Good s → s.question ≡ None → get_or b 0 0 ≡ 1 → axis_record n s b ≡ Ok r → Step s b r
@@ -212,7 +211,7 @@ axis_step n s b r long small g none kind h =
       few_terms = g.few_terms;
       axes = all_push axis_formed s.axes a g.axes ok.formed;
       terms = ap (all (term_formed (s.axes ++ a ∷ []))) no_terms;
-      asked = λ q e. absurd (void (let x : None ≡ Some q = sym none ∙ e in cc));
+      asked = λ q e. let x : None ≡ Some q = sym none ∙ e in cc;
     } in
     let rest : terms_bytes s.terms ++ asked_bytes s.question ≡ [] = λ i. terms_bytes (no_terms i) ++ asked_bytes (none i) in
     let same : seen_bytes (added (IsAxis a) s) ≡ seen_bytes s ++ b =
@@ -296,7 +295,7 @@ record_step n s b r long small g h =
     ⊎_elim (λ e. axis_step n s b r long small g none e.0 e.1)
     (⊎_elim (λ e. term_step n s b r long small g none e.0 e.1)
     (⊎_elim (λ e. question_step n s b r long g none e.0 e.1)
-    (λ e. absurd (void (cc)))))
+    (λ e. cc)))
     (kind_tests k (axis_record n s b) (term_record n s b) (question_record n s b) (Err (fault Turn n 0)) (Ok r) (eqb k 1) (eqb k 2) (eqb k 3) refl refl refl p1.2)
 
 -- ---- all records
@@ -347,10 +346,10 @@ finished_sound (Some q) s m c bs run e h =
     let same : bs ≡ encoded (ticket_of s q) = sym run.same ∙ ap (λ x. axes_bytes 0 s.axes ++ (terms_bytes s.terms ++ asked_bytes x)) e in
     let sound : Encodes (ticket_of s q) bs = record { formed = formed; same = same } in
     subst (λ x. Encodes x bs) is sound
-finished_sound None s m c bs run e h = absurd (void (cc))
+finished_sound None s m c bs run e h = cc
 
 start_good : Good nothing
-start_good = record { few_axes = omega arith; few_terms = omega arith; axes = refl; terms = refl; asked = λ q e. absurd (void (cc)) }
+start_good = record { few_axes = omega arith; few_terms = omega arith; axes = refl; terms = refl; asked = λ q e. cc }
 
 -- what is read is well formed, and the bytes are its encoding
 pub sound : (bs : List ℕ) (c : Content) → Bytes bs → reading bs ≡ Ok c → Encodes c bs

@@ -1,15 +1,10 @@
 -- Record after record.
-use Rattle.std.proofs.Common.{◌≡◌, ℕ, zero, suc, ◌+◌, ◌<◌, ◌≤◌, List, [], ◌∷◌, length, get_or, take, drop, IsErrAnd, Ok, Err, Result, sym, refl, ap, ◌∙◌}
+use Rattle.std.proofs.Common.{◌≡◌, ℕ, zero, suc, ◌+◌, ◌<◌, ◌≤◌, List, [], ◌∷◌, length, get_or, take, drop, Ok, Result, sym, refl, ap, ◌∙◌}
 use Rattle.std.specs.Simd.{first_chunks}
 use Rattle.std.proofs.lemmas.List.{drop_more, drop_all}
-use Rattle.std.proofs.lemmas.Result.{err_from_is_err_and}
-use Rattle.ticket.specs.Drafts.{drafted}
 use Rattle.ticket.specs.Faults.{next}
 use Rattle.ticket.specs.Reading.{Seen, added, record_of, records_of}
-use Rattle.ticket.specs.WellFormed.{Content}
-use Rattle.ticket.specs.declared.draft.Draft.{Draft}
 use Rattle.ticket.specs.declared.fault.Fault.{Fault}
-use Rattle.ticket.specs.declared.records.Question.{Question}
 
 -- records that lie apart, of which the first has the number n
 abbrev pub each_read : ℕ → Seen → List (List ℕ) → Result Seen Fault
@@ -33,6 +28,3 @@ left_more n s all d h = ap (each_read n s) (drop_more all n d h)
 
 pub left_none : (n : ℕ) (s : Seen) (all : List (List ℕ)) → length all ≤ n → Ok s ≡ left n s all
 left_none n s all h = ap (each_read n s) (sym (drop_all n all h))
-
-pub exit_drafted : {e : Fault} {s : Result Content Fault} (r : Result (Draft × Question) Fault) → IsErrAnd r (λ y. y ≡ e) → Err e ≡ s → drafted r ≡ s
-exit_drafted r h q = let p = err_from_is_err_and r h in ap drafted p.1 ∙ ap Err p.2 ∙ q

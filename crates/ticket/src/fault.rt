@@ -1,6 +1,6 @@
 // Why a ticket is refused, and where.
 ghost use Rattle.std.specs.Prelude.{◌≡◌};
-ghost use Rattle.ticket.specs.Faults.{refusal_number, refusal_layer, fault as faultAt, checked};
+ghost use Rattle.ticket.specs.Faults.{refusal_number, refusal_layer, fault, checked};
 
 // What is wrong with a ticket, with its number in the table of refusals.
 #[derive(Clone, Copy, Debug, PartialEq, Eq)]
@@ -61,26 +61,30 @@ pub struct Fault {
     pub byte: usize,
 }
 
-impl Fault {
-    pub(crate) fn at(refusal: Refusal, record: usize, byte: usize) -> Fault
-        ensures { result ≡ faultAt refusal «record» byte }
+// The number of a record in its ticket, counted from 0: each fault in the record names it.
+#[derive(Clone, Copy)]
+pub struct RecordNumber(pub(crate) usize);
+
+impl RecordNumber {
+    pub(crate) fn fault(self, refusal: Refusal, byte: usize) -> Fault
+        ensures { result ≡ fault refusal self.0 byte }
     {
         Fault {
             refusal,
             layer: refusal.layer(),
-            record,
+            record: self.0,
             byte,
         }
     }
-}
 
-// Nothing where the test is passed, else the refusal at its place.
-pub(crate) fn check(passed: bool, refusal: Refusal, record: usize, byte: usize) -> Result<(), Fault>
-    ensures { result ≡ checked passed (faultAt refusal «record» byte) }
-{
-    if passed {
-        Ok(())
-    } else {
-        Err(Fault::at(refusal, record, byte))
+    // Nothing where the test is passed, else the refusal at the byte.
+    pub(crate) fn check(self, passed: bool, refusal: Refusal, byte: usize) -> Result<(), Fault>
+        ensures { result ≡ checked passed (fault refusal self.0 byte) }
+    {
+        if passed {
+            Ok(())
+        } else {
+            Err(self.fault(refusal, byte))
+        }
     }
 }

@@ -7,20 +7,19 @@ ghost use Rattle.ticket.specs.Reading.{reading, record_of, is_length};
 
 use super::draft::Draft;
 use super::failure::Failure;
-use super::fault::{Fault, Refusal, check};
-use super::parts::{axis, question, term};
+use super::fault::{Fault, RecordNumber, Refusal};
 use super::reader::Reader;
 use super::records::{Question, Record};
 use super::ticket::Ticket;
 use std::alloc::Global;
 
-// A record of sixteen bytes, told by its first.
-fn take_record(bytes: &[u8], record: usize, draft: &Draft) -> Result<Record, Fault>
+// A record of sixteen bytes, told by its first. It is a slice and no array: of a lent array no pattern's rest is proved yet.
+fn take_record(bytes: &[u8], record: RecordNumber, draft: &Draft) -> Result<Record, Fault>
     requires { length bytes.now ≡ 16 }
-    ensures value { result ≡ record_of «record» (seen draft.now) bytes.now }
+    ensures value { result ≡ record_of «record».0 (seen draft.now) bytes.now }
     ensures room { IfOk result (λ x. Room x draft.now) }
 {
-    check(draft.question.is_none(), Refusal::Turn, record, 0)?;
+    record.check(draft.question.is_none(), Refusal::Turn, 0)?;
     match bytes {
         [
             1,
@@ -37,10 +36,10 @@ fn take_record(bytes: &[u8], record: usize, draft: &Draft) -> Result<Record, Fau
             b3,
             rest @ ..,
         ] => {
-            check(draft.takes_axis(*number), Refusal::Turn, record, 0)?;
+            record.check(draft.takes_axis(*number), Refusal::Turn, 0)?;
             let lower = [*a0, *a1, *a2, *a3];
             let upper = [*b0, *b1, *b2, *b3];
-            let axis = axis(record, *degree, *ends, lower, upper, rest)?;
+            let axis = record.axis(*degree, *ends, lower, upper, rest)?;
             Ok(Record::Axis(axis))
         }
         [
@@ -62,20 +61,20 @@ fn take_record(bytes: &[u8], record: usize, draft: &Draft) -> Result<Record, Fau
             d3,
             ..
         ] => {
-            check(draft.takes_term(), Refusal::Turn, record, 0)?;
+            record.check(draft.takes_term(), Refusal::Turn, 0)?;
             let powers = [*e0, *e1, *e2, *e3];
             let blank = [*z0, *z1, *z2];
             let coefficient = [*c0, *c1, *c2, *c3];
             let drift = [*d0, *d1, *d2, *d3];
-            let term = term(draft, record, powers, blank, coefficient, drift)?;
+            let term = record.term(draft, powers, blank, coefficient, drift)?;
             Ok(Record::Term(term))
         }
         [3, relation, depth, rest @ ..] => {
-            check(draft.takes_question(), Refusal::Turn, record, 0)?;
-            let question = question(record, *relation, *depth, rest)?;
+            record.check(draft.takes_question(), Refusal::Turn, 0)?;
+            let question = record.question(*relation, *depth, rest)?;
             Ok(Record::Question(question))
         }
-        _ => Err(Fault::at(Refusal::Turn, record, 0)),
+        _ => Err(record.fault(Refusal::Turn, 0)),
     }
 }
 
@@ -91,11 +90,7 @@ impl<'a> Reader<'a> {
     pub fn new(bytes: &'a [u8]) -> Reader<'a>
         ensures { lent result ≡ bytes.now }
     {
-        Reader {
-            bytes,
-            origin: 0,
-            end: bytes.len(),
-        }
+        Reader { bytes }
     }
 
     // The ticket, or the first fault in it.
@@ -104,8 +99,7 @@ impl<'a> Reader<'a> {
         ensures exactly { Exactly (lent self.now) result }
         ensures unambiguous { Unambiguous }
     {
-        let bytes = &self.bytes[self.origin..self.end];
-        let (draft, question) = read_records(bytes)?;
+        let (draft, question) = read_records(self.bytes)?;
         let axes = Vec::from_slice(heap, &draft.axes)?;
         let terms = Vec::from_slice(heap, &draft.terms)?;
         Ok(Ticket {
@@ -122,15 +116,15 @@ fn read_records(bytes: &[u8]) -> Result<(Draft, Question), Fault>
     ensures value { drafted result ≡ reading bytes.now }
     ensures bytes { OnOk result (Bytes bytes.now) }
 {
-    check(is_length(bytes.len()), Refusal::Length, 0, 0)?;
+    RecordNumber(0).check(is_length(bytes.len()), Refusal::Length, 0)?;
     let (records, _) = bytes.as_chunks::<16>();
     let mut draft = Draft::new();
     for (at, bytes) in records.iter().enumerate() {
-        let record = take_record(bytes, at, &draft)?;
+        let record = take_record(bytes, RecordNumber(at), &draft)?;
         draft.add(record);
     }
     let Some(question) = draft.question else {
-        return Err(Fault::at(Refusal::Turn, records.len() - 1, 0));
+        return Err(RecordNumber(records.len() - 1).fault(Refusal::Turn, 0));
     };
     Ok((draft, question))
 }

@@ -22,7 +22,7 @@ impl SizedTicket {
         let value = self.ticket.value_size();
         let drift = self.ticket.drift_size();
         Sizes {
-            patch: self.ticket.patch_count() as usize,
+            patch: self.ticket.patch_count(),
             scale: self.ticket.scale(),
             value,
             drift,

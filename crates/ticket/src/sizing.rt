@@ -1,12 +1,12 @@
 // How large a ticket is. Products and sums stop at the largest word, which is over every limit, so that none wraps.
-ghost use Rattle.std.specs.Prelude.{◌≡◌, ◌^◌, ℤ, length};
+ghost use Rattle.std.specs.Prelude.{◌≡◌, ◌*◌, ◌^◌, ℤ, length, unsigned_abs};
 ghost use Rattle.ticket.specs.Capped.{capped};
 ghost use Rattle.ticket.specs.Law.{content};
 ghost use Rattle.ticket.specs.SizedLaw.{sized_content};
 ghost use Rattle.ticket.specs.Sizes.{common, reach, power_reach, patch_count, scale, size_of, value_size, drift_size, is_patch, is_sized, drifts_carried, sizing};
 ghost use Rattle.ticket.specs.declared.records.Term.{Term};
 
-use super::fault::{Fault, Refusal, check};
+use super::fault::{Fault, RecordNumber, Refusal};
 use super::records::{Axis, Term};
 use super::sized_ticket::SizedTicket;
 use super::ticket::Ticket;
@@ -55,6 +55,13 @@ impl Term {
             .map(|(axis, exponent)| power(axis.reach(), *exponent))
             .fold(1, u64::saturating_mul)
     }
+
+    // How large this part of the coefficient makes the term.
+    fn size(&self, part: i32, axes: &[Axis]) -> u64
+        ensures { result ≡ capped (unsigned_abs part * power_reach axes.now self.now.exponents) }
+    {
+        u64::from(part.unsigned_abs()).saturating_mul(self.power_reach(axes))
+    }
 }
 
 impl Ticket {
@@ -67,16 +74,16 @@ impl Ticket {
             .fold(1, u64::saturating_mul)
     }
 
-    pub(crate) fn patch_count(&self) -> u64
+    pub(crate) fn patch_count(&self) -> usize
         ensures { result ≡ capped (patch_count self.now.axes.items) }
     {
         self.axes
             .iter()
-            .map(|axis| u64::from(axis.degree) + 1)
-            .fold(1, u64::saturating_mul)
+            .map(|axis| usize::from(axis.degree) + 1)
+            .fold(1, usize::saturating_mul)
     }
 
-    // The size of all terms, where of each this part counts.
+    // The size of the ticket in one part of its terms.
     fn size<F: Fn(&Term) -> i32>(&self, part: F) -> u64
         requires { (state : F) (term : _) → F.pre state term }
         ensures { (p : Term → ℤ) → ((t : _) (z : ℤ) → F.post part t z → z ≡ p t.now) → result ≡ capped (size_of p self.now.axes.items self.now.terms.items) }
@@ -84,9 +91,7 @@ impl Ticket {
         let sum = self
             .terms
             .iter()
-            .map(|term| u64::from(part(term).unsigned_abs()).saturating_mul(term.power_reach(
-                &self.axes,
-            )))
+            .map(|term| term.size(part(term), &self.axes))
             .fold(0, u64::saturating_add);
         self.scale().saturating_mul(sum)
     }
@@ -115,15 +120,14 @@ impl Ticket {
         self.value_size() <= LIMIT && self.drift_size() <= LIMIT
     }
 
-    // No term, of which the first is the record behind the axes, has a drift that the kind of number does not carry.
+    // The kind of number carries the drift of each term; the first term is the record behind the axes.
     fn check_drifts(&self, drifts: bool) -> Result<(), Fault>
         ensures { result ≡ drifts_carried drifts (length self.now.axes.items) self.now.terms.items }
     {
         let first = self.axes.len();
-        self.terms.iter().enumerate().try_for_each(|(k, term)| check(
+        self.terms.iter().enumerate().try_for_each(|(k, term)| RecordNumber(first + k).check(
             term.is_carried(drifts),
             Refusal::Drift,
-            first + k,
             12,
         ))
     }
@@ -132,8 +136,8 @@ impl Ticket {
     pub fn sized(self, drifts: bool) -> Result<SizedTicket, Fault>
         ensures { sized_content result ≡ sizing drifts (content self) }
     {
-        check(self.is_patch(), Refusal::PatchSize, 0, 0)?;
-        check(self.is_sized(), Refusal::Size, 0, 0)?;
+        RecordNumber(0).check(self.is_patch(), Refusal::PatchSize, 0)?;
+        RecordNumber(0).check(self.is_sized(), Refusal::Size, 0)?;
         self.check_drifts(drifts)?;
         Ok(SizedTicket { ticket: self })
     }

@@ -1,17 +1,17 @@
 use Rattle.std.proofs.Common.{◌+◌, ◌-◌, ◌/◌, length, Err, sym, refl, ap, ◌∙◌}
 use Rattle.std.proofs.lemmas.Result.{IfOk-from_err}
-use Rattle.ticket.specs.Drafts.{seen}
+use Rattle.ticket.specs.Drafts.{seen, drafted}
 use Rattle.ticket.specs.Faults.{fault}
 use Rattle.ticket.specs.Reading.{reading, finished}
 use Rattle.ticket.specs.declared.fault.Refusal.TheVariants.{Turn}
-use Rattle.ticket.proofs.Chains.{through, stops, told}
-use Rattle.ticket.proofs.Turns.{each_read, left, apart, left_more, left_none, exit_drafted}
+use Rattle.ticket.proofs.Chains.{exit_as, through, stops, told}
+use Rattle.ticket.proofs.Turns.{each_read, left, apart, left_more, left_none}
 use Rattle.ticket.proofs.reading.read_records.Goals as goal
 
 pub returns-in_err-check : goal.returns-in_err-check
 unfolding reading
 returns-in_err-check c = record {
-  value = exit_drafted _ c.from_residual.ensures.1 (stops _ (told _ c.is_length.ensures c.in_err-check.ensures));
+  value = exit_as drafted (λ _. refl) _ c.from_residual.ensures.1 (stops _ (told _ c.is_length.ensures c.in_err-check.ensures));
   bytes = IfOk-from_err _ _ c.from_residual.ensures.0;
 }
 
@@ -21,7 +21,7 @@ loop-at-init c = ap (λ s. each_read 0 s c.as_chunks.result.0.now) (sym c.new-dr
 pub returns-in_err-record : goal.returns-in_err-record
 unfolding reading
 returns-in_err-record c = record {
-  value = exit_drafted _ c.from_residual-in_err-record.ensures.1
+  value = exit_as drafted (λ _. refl) _ c.from_residual-in_err-record.ensures.1
       (through _ (told _ c.is_length.ensures c.in_ok-check.ensures)
       (stops _ (
       stops _ c.in_err-record.ensures.value
@@ -48,7 +48,7 @@ returns-clause-value c =
 pub returns-in_default-clause-value : goal.returns-in_default-clause-value
 unfolding reading
 returns-in_default-clause-value c =
-    ap Err (c.at.ensures ∙ ap (λ n. fault Turn (n - 1) 0) c.as_chunks.ensures.front_len)
+    ap Err (c.fault.ensures ∙ ap (λ n. fault Turn (n - 1) 0) c.as_chunks.ensures.front_len)
     ∙ through _ (told _ c.is_length.ensures c.in_ok-check.ensures)
     (through _ (left_none _ _ _ c.loop-at-test.false ∙ sym c.loop-at.invariant ∙ sym (apart _ _ _ _ c.as_chunks.ensures.front))
     (ap (λ q. finished q (seen c.loop-at.draft) (length c.args.bytes.now / 16)) (sym c.in_default.is)))

@@ -130,6 +130,6 @@ returns-in_default c =
     let no_term : get_or c.args.bytes.now 0 0 ≡ 2 → ⊥ = search rules in
     let no_question : get_or c.args.bytes.now 0 0 ≡ 3 → ⊥ = search rules in
     record {
-      value = ap Err c.at.ensures ∙ through _ (told _ (none_told _ _ c.is_none.ensures) c.in_ok-check.ensures) (is_other _ _ _ _ (get_or c.args.bytes.now 0 0) no_axis no_term no_question);
+      value = ap Err c.fault.ensures ∙ through _ (told _ (none_told _ _ c.is_none.ensures) c.in_ok-check.ensures) (is_other _ _ _ _ (get_or c.args.bytes.now 0 0) no_axis no_term no_question);
       room = tt;
     }

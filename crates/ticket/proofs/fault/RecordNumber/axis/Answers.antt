@@ -4,7 +4,7 @@ use Rattle.ticket.specs.Numbers.{is_end, lower_flag, upper_flag}
 use Rattle.ticket.specs.Reading.{axis_of}
 use Rattle.ticket.specs.declared.records.Axis.{Axis}
 use Rattle.ticket.proofs.Chains.{through, stops, exit, told, sent}
-use Rattle.ticket.proofs.parts.axis.Goals as goal
+use Rattle.ticket.proofs.fault.RecordNumber.axis.Goals as goal
 
 pub returns-in_err-check : goal.returns-in_err-check
 unfolding axis_of

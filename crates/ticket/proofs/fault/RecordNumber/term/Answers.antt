@@ -2,7 +2,7 @@ use Rattle.std.proofs.Common.{Ok, rules}
 use Rattle.ticket.specs.Reading.{term_of}
 use Rattle.ticket.specs.declared.records.Term.{Term}
 use Rattle.ticket.proofs.Chains.{through, stops, exit, sent}
-use Rattle.ticket.proofs.parts.term.Goals as goal
+use Rattle.ticket.proofs.fault.RecordNumber.term.Goals as goal
 
 pub returns-in_err-zeros : goal.returns-in_err-zeros
 unfolding term_of
