@@ -12,7 +12,7 @@ use algebra::Half;
 use number::Number;
 
 // A block is degree + 1 rows of `stride` numbers each. Its rows are counted from the end that the half keeps, so that one text serves
-// both halves.
+// both halves. The block goes beside them: of a struct that lends both, each method would have to say that it keeps the rows and the loan.
 #[derive(Clone, Copy)]
 struct Rows {
     degree: usize,
