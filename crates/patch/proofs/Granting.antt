@@ -26,12 +26,8 @@ module _ (limit : ℕ) (ns : List ℕ) (j start : ℕ) (work : List Pair) where
       (λ e. let n = ltb-false (numbers ns) (2 ^ 64) e in lt-leb (start + (numbers ns + numbers ns)) (length work) (omega arith))
 
   module _ (l : j < length ns) (told : numbers ns < 2 ^ 64) where
-    pub by_room : (room : Bool) → leb (start + (numbers ns + numbers ns)) (length work) ≡ room
-        → cond room (cond (all_grow limit (get_or ns j 0) (part start (numbers ns) work)) (Ok tt) (Err Growth)) (Err Room) ≡ halving limit ns j start work
-    by_room room h = rw (lt-ltb j (length ns) l, lt-ltb (numbers ns) (2 ^ 64) told, h) refl
-
     pub by_growth : (grows : Bool) → leb (start + (numbers ns + numbers ns)) (length work) ≡ true → all_grow limit (get_or ns j 0) (part start (numbers ns) work) ≡ grows → cond grows (Ok tt) (Err Growth) ≡ halving limit ns j start work
-    by_growth grows h e = rw (← e) (by_room true h)
+    by_growth grows room e = rw (lt-ltb j (length ns) l, lt-ltb (numbers ns) (2 ^ 64) told, room, e) refl
 
 -- ---- the tests as the code makes them
 module _ {K : Type 0} (means : K → Pair) (ns : List ℕ) (j start : ℕ) (work : List K) (s : Shape) (e : s ≡ shape_of ns j) where

@@ -17,9 +17,15 @@ abbrev pub row_of : Half → ℕ → ℕ → ℕ
 row_of Lower n u = u
 row_of Upper n u = n - u
 
+abbrev pub block_size : Rows → ℕ
+block_size rows = (rows.degree + 1) * rows.stride
+
 -- where number i of row u stands
 abbrev pub spot : Rows → ℕ → ℕ → ℕ
 spot rows u i = row_of rows.half rows.degree u * rows.stride + i
+
+abbrev pub in_row : Rows → List Pair → ℕ → ℕ → Pair
+in_row rows b u i = pair_at b (spot rows u i)
 
 -- number i of the row that is farther from the end that the half keeps, of two neighbouring rows
 abbrev pub farther : Half → ℕ → ℕ → ℕ

@@ -5,14 +5,14 @@ ghost use Rattle.algebra.specs.Pair.{sum, Within};
 ghost use Rattle.algebra.specs.Form.{other};
 ghost use Rattle.number.specs.Limits.{may_grow};
 ghost use Rattle.patch.specs.Judging.{all_grow};
-ghost use Rattle.patch.specs.Sweeps.{pair_at, row_of, added_row, half_at, half_of, Kept, spot, farther};
+ghost use Rattle.patch.specs.Sweeps.{pair_at, row_of, added_row, half_at, half_of, Kept, block_size, spot, in_row, farther};
 
 use crate::shape::Shape;
 use algebra::Half;
 use number::Number;
 
 // A block is degree + 1 rows of `stride` numbers each. Its rows are counted from the end that the half keeps, so that one text serves
-// both halves.
+// both halves. The block goes beside them: of a struct that lends both, each method would have to say that it keeps the rows and the loan.
 #[derive(Clone, Copy)]
 struct Rows {
     degree: usize,
@@ -24,7 +24,7 @@ impl Rows {
     // Where row u begins in its block.
     fn start(self, u: usize) -> usize
         requires row { u ≤ self.degree }
-        requires fits { (self.degree + 1) * self.stride < 2 ^ 64 }
+        requires fits { block_size self < 2 ^ 64 }
         ensures { result ≡ row_of self.half self.degree u * self.stride }
     {
         match self.half {
@@ -40,6 +40,7 @@ fn add_row<K: Number>(row: &mut [K], other: &[K])
     requires small { (i : ℕ) → i < length row.old → Within K.limit (sum (pair_at (map K.means row.old) i) (pair_at (map K.means other.now) i)) }
     ensures { (i : ℕ) → i < length row.old → pair_at (map K.means row.new) i ≡ sum (pair_at (map K.means row.old) i) (pair_at (map K.means other.now) i) }
 {
+    // By the place: after a `zip` over `iter_mut` a proof would know no more of the row than its length.
     for (i, x) in row.iter_mut().enumerate() {
         *x = x.add(other[i]);
     }
@@ -69,12 +70,12 @@ fn add_beside<K: Number>(two: &mut [K], stride: usize, half: Half)
     }
 }
 
-// Row u in sweep j: the row before it, which stands beside it, is added to it, or to the first j + 1 rows they themselves.
+// Row u in sweep j: it gets the row before it added, which stands beside it, and the first j + 1 rows get themselves.
 fn sweep_row<K: Number>(block: &mut [K], rows: Rows, j: usize, u: usize)
     requires row { u ≤ rows.degree }
-    requires whole { length block.old ≡ (rows.degree + 1) * rows.stride }
-    requires small { (i : ℕ) → i < rows.stride → Within K.limit (sum (pair_at (map K.means block.old) (spot rows u i)) (pair_at (map K.means block.old) (spot rows (added_row j u) i))) }
-    ensures sums { (i : ℕ) → i < rows.stride → pair_at (map K.means block.new) (spot rows u i) ≡ sum (pair_at (map K.means block.old) (spot rows u i)) (pair_at (map K.means block.old) (spot rows (added_row j u) i)) }
+    requires whole { length block.old ≡ block_size rows }
+    requires small { (i : ℕ) → i < rows.stride → Within K.limit (sum (in_row rows (map K.means block.old) u i) (in_row rows (map K.means block.old) (added_row j u) i)) }
+    ensures sums { (i : ℕ) → i < rows.stride → in_row rows (map K.means block.new) u i ≡ sum (in_row rows (map K.means block.old) u i) (in_row rows (map K.means block.old) (added_row j u) i) }
     ensures kept { Kept (spot rows u 0) (spot rows u rows.stride) (pair_at (map K.means block.new)) (pair_at (map K.means block.old)) }
 {
     let to = rows.start(u);
@@ -92,9 +93,9 @@ fn sweep_row<K: Number>(block: &mut [K], rows: Rows, j: usize, u: usize)
 
 // Sweep j over a block, from its last row on, so that each row still finds the one before it as that was.
 fn sweep<K: Number>(block: &mut [K], rows: Rows, j: usize)
-    requires whole { length block.old ≡ (rows.degree + 1) * rows.stride }
-    requires small { (u v i : ℕ) → u ≤ rows.degree → v ≤ rows.degree → i < rows.stride → Within K.limit (sum (pair_at (map K.means block.old) (spot rows u i)) (pair_at (map K.means block.old) (spot rows v i))) }
-    ensures { (u i : ℕ) → u ≤ rows.degree → i < rows.stride → pair_at (map K.means block.new) (spot rows u i) ≡ sum (pair_at (map K.means block.old) (spot rows u i)) (pair_at (map K.means block.old) (spot rows (added_row j u) i)) }
+    requires whole { length block.old ≡ block_size rows }
+    requires small { (u v i : ℕ) → u ≤ rows.degree → v ≤ rows.degree → i < rows.stride → Within K.limit (sum (in_row rows (map K.means block.old) u i) (in_row rows (map K.means block.old) v i)) }
+    ensures { (u i : ℕ) → u ≤ rows.degree → i < rows.stride → in_row rows (map K.means block.new) u i ≡ sum (in_row rows (map K.means block.old) u i) (in_row rows (map K.means block.old) (added_row j u) i) }
 {
     for u in (0..=rows.degree).rev() {
         sweep_row(block, rows, j, u);
@@ -103,7 +104,7 @@ fn sweep<K: Number>(block: &mut [K], rows: Rows, j: usize)
 
 // Halves one block.
 fn halve_block<K: Number>(block: &mut [K], rows: Rows)
-    requires whole { length block.old ≡ (rows.degree + 1) * rows.stride }
+    requires whole { length block.old ≡ block_size rows }
     requires small { (p : ℕ) → p < length block.old → may_grow K.limit rows.degree (pair_at (map K.means block.old) p) ≡ true }
     ensures { (p : ℕ) → p < length block.old → pair_at (map K.means block.new) p ≡ half_at rows.half rows.degree rows.stride (pair_at (map K.means block.old)) p }
 {
@@ -125,6 +126,7 @@ pub(crate) fn halve_patch<K: Number>(patch: &mut [K], shape: Shape, half: Half)
         half,
     };
     let size = (rows.degree + 1) * rows.stride;
+    // By the number: after `chunks_exact_mut` a proof would know no more of the patch than its length.
     for b in 0..shape.blocks {
         halve_block(&mut patch[b * size..(b + 1) * size], rows);
     }
