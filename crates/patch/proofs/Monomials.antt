@@ -109,9 +109,6 @@ module _ {axes : List Axis} {es : List ℕ} (a : Axis) (more : List Axis) (e : �
   counted : numbers (degrees_of more) ≡ later / (n + 1)
   counted = sym (ap (λ k. later / (k + 1)) n-is ∙ later_after a more e rest_es whole product later left opened)
 
-  pub turn_positive : 0 < later / (n + 1)
-  turn_positive = subst (λ k. 0 < k) counted (numbers_positive (degrees_of more))
-
   pub turn_convertible : Convertible a e
   turn_convertible = convertible a more e rest_es whole product later left opened
 
