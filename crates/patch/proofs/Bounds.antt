@@ -2,7 +2,6 @@
 use Rattle.std.proofs.Common.{◌≡◌, ℕ, zero, suc, ◌+◌, ◌-◌, ◌*◌, ◌/◌, ◌^◌, ◌<◌, ◌≤◌, ℤ, pos, negsuc, ◌+ℤ◌, ◌-ℤ◌, ◌*ℤ◌, neg_ℤ, nat_abs, sym, refl, ap, ◌∙◌, ap₂, mul_comm, mul-le-mul, mul-le-mul_left, mul-zero, mul-add, div-mul-le_self, arith, pow-add}
 use native.Mathlib.Nat.{pow-zero, pow-succ', pow-le-pow_left, pow-le-pow_right}
 use borrow.Author.Differences.{ints}
-use lib.IntN.{*ℤ_comm}
 use Rattle.algebra.specs.Module.{integers, pow}
 use Rattle.algebra.specs.Bernstein.{choose, total, share, of_power}
 use Rattle.algebra.proofs.Integers.{natural}
@@ -31,11 +30,6 @@ pub smaller_power : (b c m e : ℕ) → b ≤ c → m ≤ e → c ^ e ≤ word �
 smaller_power b c zero e h k room = omega (arith, pow-zero b)
 smaller_power zero c (suc m) e h k room = omega (arith, pow-succ' zero m)
 smaller_power (suc b) c (suc m) e h k room = omega (arith, pow-le-pow_left h (suc m), pow-le-pow_right {n = c} (omega arith) k)
-
--- one factor more in a power that is a word
-pub power_step_small : (x : ℤ) (i e : ℕ) → i < e → nat_abs x ^ e ≤ word → nat_abs (pow x i *ℤ x) ≤ word
-power_step_small x i e h room =
-    omega (arith, ap nat_abs (*ℤ_comm (pow x i) x), nat_abs_pow x (suc i), smaller_power (nat_abs x) (nat_abs x) (suc i) e (omega arith) (omega arith) room)
 
 -- ---- sums of natural numbers
 abbrev pub sum : ℕ → (ℕ → ℕ) → ℕ

@@ -12,7 +12,7 @@ use Rattle.ticket.specs.Sizes.{common, degrees_of, reach, scale, power_reach, re
 use Rattle.ticket.specs.WellFormed.{axis_formed}
 use Rattle.ticket.specs.declared.records.Axis.{Axis}
 use Rattle.patch.specs.Conversion.{Convertible, Monomial}
-use Rattle.patch.specs.FirstPatch.{of_powers}
+use Rattle.patch.specs.FirstPatch.{of_powers, coefficient_at}
 use Rattle.patch.proofs.Bounds.{nat_abs_product, of_power_small}
 use Rattle.patch.proofs.Box.{common_positive}
 use Rattle.patch.proofs.Formed.{Sound, Fits, all_passed, axis_sound, exponents_fit}
@@ -109,9 +109,6 @@ module _ {axes : List Axis} {es : List ℕ} (a : Axis) (more : List Axis) (e : �
   counted : numbers (degrees_of more) ≡ later / (n + 1)
   counted = sym (ap (λ k. later / (k + 1)) n-is ∙ later_after a more e rest_es whole product later left opened)
 
-  pub turn_positive : 0 < later / (n + 1)
-  turn_positive = subst (λ k. 0 < k) counted (numbers_positive (degrees_of more))
-
   pub turn_convertible : Convertible a e
   turn_convertible = convertible a more e rest_es whole product later left opened
 
@@ -135,7 +132,7 @@ module _ {axes : List Axis} {es : List ℕ} (a : Axis) (more : List Axis) (e : �
 -- ---- before the first turn, and after the last
 module _ (axes : List Axis) (es : List ℕ) (size place : ℕ) where
   abbrev whole : ℤ
-  whole = of_powers axes es (index_of (degrees_of axes) place)
+  whole = coefficient_at axes place es
 
   pub none_yet : Monomial axes es → size ≡ numbers (degrees_of axes) → place < size → (xs : List Axis) (fs : List ℕ) → xs ≡ axes → fs ≡ es → ToCome xs fs whole (pos 1) size place
   none_yet known size-is inside xs fs first second =

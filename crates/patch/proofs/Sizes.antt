@@ -82,7 +82,7 @@ module _ (c : Content) where
   abbrev ns : List ℕ
   ns = degrees_of c.axes
 
-  pub number_within : (ks : List ℕ) → Index ns ks → WithinSizes c (first_number (turned c) ks)
+  number_within : (ks : List ℕ) → Index ns ks → WithinSizes c (first_number (turned c) ks)
   number_within ks i = record {
     value = omega (arith, ap nat_abs (value_is (λ t. of_powers c.axes t.exponents ks) (turned_terms c.relation c.terms)), turned_sum_size c.axes (λ t. t.coefficient) (λ t. size_opposite t.coefficient) ks i c.relation c.terms);
     drift = omega (arith, ap nat_abs (drift_is (λ t. of_powers c.axes t.exponents ks) (turned_terms c.relation c.terms)), turned_sum_size c.axes (λ t. t.drift) (λ t. size_opposite t.drift) ks i c.relation c.terms);

@@ -17,7 +17,7 @@ use Rattle.ticket.specs.declared.records.Relation.{Relation}
 use Rattle.ticket.specs.declared.records.Relation.TheVariants.{Greater, AtLeast, Less, AtMost}
 use Rattle.ticket.proofs.BelowCap.{few_axes}
 use Rattle.patch.specs.Conversion.{Monomial}
-use Rattle.patch.specs.FirstPatch.{turned, turned_terms, of_powers, number_at, Summable, all_carried}
+use Rattle.patch.specs.FirstPatch.{turned, turned_terms, coefficient_at, number_at, Summable, all_carried}
 use Rattle.patch.specs.declared.first_patch.Place.{Place}
 use Rattle.patch.specs.Point.{pair_of, sum_over}
 use Rattle.patch.proofs.Formed.{both_lists}
@@ -52,7 +52,7 @@ module _ (axes : List Axis) (t : Term) (s : Summable axes (t ∷ [])) where
 
   module _ (place : ℕ) (inside : place < numbers (degrees_of axes)) where
     abbrev factor : ℤ
-    factor = of_powers axes t.exponents (index_of (degrees_of axes) place)
+    factor = coefficient_at axes place t.exponents
 
     pub part_within : (part : Term → ℤ) → nat_abs (factor *ℤ part t) ≤ size_of part axes (t ∷ [])
     part_within part =
@@ -61,7 +61,7 @@ module _ (axes : List Axis) (t : Term) (s : Summable axes (t ∷ [])) where
 
 -- ---- the sum of the terms: `sum` is that of the first ones, and these are still to come
 abbrev pub number_of : List Axis → List Term → ℕ → Pair
-number_of axes terms place = sum_over (λ t. of_powers axes t.exponents (index_of (degrees_of axes) place)) terms
+number_of axes terms place = sum_over (λ t. coefficient_at axes place t.exponents) terms
 
 pub record ToAdd (axes : List Axis) (place : ℕ) (whole : Pair) (terms : List Term) (x : Pair) : Type 0 where
   pub formed : all (term_formed axes) terms ≡ true
@@ -98,7 +98,7 @@ module _ (axes : List Axis) (terms : List Term) (s : Summable axes terms) (place
     later = drop (i + 1) terms
 
     abbrev term : Pair
-    term = multiple (of_powers axes here.exponents (index_of (degrees_of axes) place)) (pair_of here)
+    term = multiple (coefficient_at axes place here.exponents) (pair_of here)
 
     opened : ToAdd axes place whole (here ∷ later) x
     opened = subst (λ ts. ToAdd axes place whole ts x) (drop_more terms i d l) a
@@ -179,7 +179,7 @@ module _ (c : Content) (place : ℕ) (axes : List Axis) (terms : List Term) (axe
   same : turned_pair c.relation x ≡ number_at (turned c) place
   same =
       ap (turned_pair c.relation) (x-is ∙ (λ i. number_of (axes-is i) (terms-is i) place))
-      ∙ turned_sum (λ es. of_powers c.axes es (index_of (degrees_of c.axes) place)) c.relation c.terms
+      ∙ turned_sum (coefficient_at c.axes place) c.relation c.terms
 
   pub number_greater : (c.relation ≡ Greater) ⊎ (c.relation ≡ AtLeast) → x ≡ number_at (turned c) place
   number_greater h = for_greater c.relation x h ∙ same
@@ -213,5 +213,4 @@ turned_carried drifts f AtMost ts h = opposite_carried drifts (sum_over f ts).dr
 -- so it carries that of every number of the first patch
 pub number_carried : (drifts : Bool) (c : Content) (place : ℕ) (x : Pair) → all_carried drifts c.terms ≡ true → x ≡ number_at (turned c) place → carries drifts x.drift ≡ true
 number_carried drifts c place x carried e =
-    let ks = index_of (degrees_of c.axes) place in
-    ap (λ x. carries drifts x.drift) (e ∙ sym (turned_sum (λ es. of_powers c.axes es ks) c.relation c.terms)) ∙ turned_carried drifts (λ t. of_powers c.axes t.exponents ks) c.relation c.terms carried
+    ap (λ x. carries drifts x.drift) (e ∙ sym (turned_sum (coefficient_at c.axes place) c.relation c.terms)) ∙ turned_carried drifts (λ t. coefficient_at c.axes place t.exponents) c.relation c.terms carried

@@ -40,6 +40,10 @@ abbrev pub of_powers : List Axis → List ℕ → List ℕ → ℤ
 of_powers [] es ks = pos 1
 of_powers (a ∷ more) es ks = of_power (common a.degree) a.degree a.lower a.upper (slice_index es 0) (slice_index ks 0) *ℤ of_powers more (rest es) (rest ks)
 
+-- the same at a place of the patch on these axes
+abbrev pub coefficient_at : List Axis → ℕ → List ℕ → ℤ
+coefficient_at axes i es = of_powers axes es (index_of (degrees_of axes) i)
+
 abbrev pub first_number : Content → List ℕ → Pair
 first_number c ks = sum_over (λ t. of_powers c.axes t.exponents ks) c.terms
 

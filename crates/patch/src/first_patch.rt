@@ -1,13 +1,13 @@
 // The first patch of a ticket, written at the start of a workspace.
 ghost use Rattle.std.specs.Prelude.{◌≡◌, ◌<◌, ◌≤◌, true, [], ◌∷◌, map, length, IfOk, IfErr};
-ghost use Rattle.algebra.specs.Layout.{numbers, index_of};
+ghost use Rattle.algebra.specs.Layout.{numbers};
 ghost use Rattle.algebra.specs.Pair.{multiple};
 ghost use Rattle.number.specs.Limits.{word};
 ghost use Rattle.ticket.specs.Law.{content};
 ghost use Rattle.ticket.specs.Sizes.{degrees_of};
 ghost use Rattle.patch.specs.Conversion.{Monomial};
 ghost use Rattle.patch.specs.Point.{pair_of, sum_over};
-ghost use Rattle.patch.specs.FirstPatch.{turned, of_powers, number_at, first_patch, Summable, all_carried, beginning, Begun};
+ghost use Rattle.patch.specs.FirstPatch.{turned, coefficient_at, number_at, first_patch, Summable, all_carried, beginning, Begun};
 ghost use Rattle.patch.specs.Meaning.{FirstPatchRepresents, WholeCovers};
 ghost use Rattle.patch.specs.Sizes.{FirstPatchIsBounded};
 
@@ -32,7 +32,7 @@ impl Place<'_> {
     // axes have.
     fn monomial(&self, exponents: &[u8]) -> i64
         requires { Monomial self.now.axes.now exponents.now }
-        ensures { result ≡ of_powers self.now.axes.now exponents.now (index_of (degrees_of self.now.axes.now) self.now.at) }
+        ensures { result ≡ coefficient_at self.now.axes.now self.now.at exponents.now }
     {
         let mut product = 1;
         let mut later = self.size;
@@ -52,7 +52,7 @@ impl Place<'_> {
     // What a term adds to the number. A term that is 0 adds nothing, however large its powers: their product is not computed.
     fn term(&self, term: &Term) -> Parts
         requires { Summable self.now.axes.now (term.now ∷ []) }
-        ensures { result ≡ multiple (of_powers self.now.axes.now term.now.exponents (index_of (degrees_of self.now.axes.now) self.now.at)) (pair_of term.now) }
+        ensures { result ≡ multiple (coefficient_at self.now.axes.now self.now.at term.now.exponents) (pair_of term.now) }
     {
         if term.coefficient == 0 && term.drift == 0 {
             return Parts { value: 0, drift: 0 };
@@ -67,7 +67,7 @@ impl Place<'_> {
     // The sum of the terms.
     fn sum(&self, terms: &[Term]) -> Parts
         requires { Summable self.now.axes.now terms.now }
-        ensures { result ≡ sum_over (λ t. of_powers self.now.axes.now t.exponents (index_of (degrees_of self.now.axes.now) self.now.at)) terms.now }
+        ensures { result ≡ sum_over (λ t. coefficient_at self.now.axes.now self.now.at t.exponents) terms.now }
     {
         // Not a chain: that the next sum fits follows from what is summed so far, which a chain's closure does not know.
         let mut sum = Parts { value: 0, drift: 0 };

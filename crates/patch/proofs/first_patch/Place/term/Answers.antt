@@ -1,10 +1,8 @@
 use Rattle.std.proofs.Common.{◌≡◌, ◌≤◌, [], ◌∷◌, ℤ, ◌*ℤ◌, nat_abs, sym, ap, inl, inr, subst, le_trans, w32, of_z, rules}
-use Rattle.algebra.specs.Layout.{index_of}
 use Rattle.number.specs.Limits.{word}
-use Rattle.ticket.specs.Sizes.{degrees_of}
 use Rattle.ticket.specs.declared.records.Term.{Term}
 use Rattle.patch.specs.declared.first_patch.Place.{Place}
-use Rattle.patch.specs.FirstPatch.{of_powers, Summable}
+use Rattle.patch.specs.FirstPatch.{coefficient_at, Summable}
 use Rattle.patch.proofs.Summing.{at_below, monomial, part_within}
 use Rattle.patch.proofs.Words.{answer_is, widened_is, product_fits, product_is}
 use Rattle.patch.proofs.first_patch.Place.term.Goals as goal
@@ -23,7 +21,7 @@ small_is e h = subst (λ z. nat_abs z ≤ word) (sym e) h
 -- the parts of the term, times the factor
 module _ (place : Place) (t : Term) (s : Summable place.axes.now (t ∷ [])) where
   abbrev factor : ℤ
-  factor = of_powers place.axes.now t.exponents (index_of (degrees_of place.axes.now) place.at)
+  factor = coefficient_at place.axes.now place.at t.exponents
 
   value_small : nat_abs (factor *ℤ t.coefficient) ≤ word
   value_small = le_trans (part_within place.axes.now t s place.at (at_below place) (λ t. t.coefficient)) s.value_room
