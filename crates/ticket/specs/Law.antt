@@ -1,5 +1,5 @@
 -- What reading promises.
-use Rattle.std.specs.Prelude.{◌≡◌, ℕ, List, Ok, Err, vec_items, Result}
+use Rattle.std.specs.Prelude.{◌≡◌, ℕ, ◌-◌, List, take, drop, Ok, Err, vec_items, Result}
 use Rattle.ticket.specs.Encoding.{encoded}
 use Rattle.ticket.specs.Reading.{reading}
 use Rattle.ticket.specs.WellFormed.{Content, Formed}
@@ -13,7 +13,7 @@ content t = record { axes = vec_items t.axes; terms = vec_items t.terms; relatio
 
 -- the bytes of the ticket that a reader is at
 abbrev pub lent : Reader → List ℕ
-lent r = r.bytes.now
+lent r = take (r.end - r.origin) (drop r.origin r.bytes.now)
 
 -- The answer to bytes is what is read of them. Memory can be wanting for nothing but a ticket that would have been read: no fault hides behind it.
 abbrev pub Answers : List ℕ → Result Ticket Failure → Type 0

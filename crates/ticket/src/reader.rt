@@ -1,7 +1,11 @@
-// Bytes that are lent to be read.
+// Bytes that are lent to be read, and where in them a ticket lies.
+ghost use Rattle.std.specs.Prelude.{◌≤◌, length};
 
-// The bytes are those of one ticket; a file may hold more, and then its part is lent.
+// The ticket starts at the origin and ends before the end; a file may hold more than this one ticket.
 #[derive(Drop)]
 pub struct Reader<'a> {
     pub(crate) bytes: &'a [u8],
+    pub(crate) origin: usize,
+    pub(crate) end: usize,
+    ghost within: { (origin ≤ end) × (end ≤ length bytes.now) },
 }

@@ -90,7 +90,11 @@ impl<'a> Reader<'a> {
     pub fn new(bytes: &'a [u8]) -> Reader<'a>
         ensures { lent result ≡ bytes.now }
     {
-        Reader { bytes }
+        Reader {
+            bytes,
+            origin: 0,
+            end: bytes.len(),
+        }
     }
 
     // The ticket, or the first fault in it.
@@ -99,7 +103,8 @@ impl<'a> Reader<'a> {
         ensures exactly { Exactly (lent self.now) result }
         ensures unambiguous { Unambiguous }
     {
-        let (draft, question) = read_records(self.bytes)?;
+        let bytes = &self.bytes[self.origin..self.end];
+        let (draft, question) = read_records(bytes)?;
         let axes = Vec::from_slice(heap, &draft.axes)?;
         let terms = Vec::from_slice(heap, &draft.terms)?;
         Ok(Ticket {
