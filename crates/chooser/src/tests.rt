@@ -138,7 +138,7 @@ fn refuses_gaps(rt: HostRuntime) -> Result<(), Fail> {
     for gap in [0, 25, 255] {
         match Evening::over(Alternating, gap) {
             Ok(_) => return Err(Fail::new("a layer with that gap")),
-            Err(bad) => assert_eq!(rt; bad.number(), 18),
+            Err(bad) => assert_eq!(rt; u8::from(&bad), 18),
         }
     }
     assert!(rt; evened(1, &[1], &[0]).is_some() && evened(24, &[1], &[0]).is_some());
