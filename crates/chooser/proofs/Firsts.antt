@@ -1,14 +1,14 @@
 -- The first best, as `min_by_key` over a range finds it.
-use Rattle.std.proofs.Common.{◌≡◌, ℕ, zero, suc, ◌+◌, ◌-◌, ◌<◌, ◌≤◌, Bool, true, false, cond, ltb, List, [], ◌∷◌, map, Option, Some, None, MatchOption, unwrap_or, refl, sym, ap, subst, ◌∙◌, add-one, add-zero, ap₂, arith, lt-ltb, le-ltb}
+use Rattle.std.proofs.Common.{◌≡◌, ℕ, zero, suc, ◌+◌, Bool, true, false, cond, ltb, List, [], ◌∷◌, Option, Some, None, MatchOption, unwrap_or, refl, sym, ap, subst, ◌∙◌, add-zero, ap₂, arith}
 use Rattle.std.specs.Ordering.{is_gt, min_by_ordering, nat_cmp}
 use Rattle.std.specs.declared.cmp.Ordering.{Ordering}
 use Rattle.std.specs.declared.cmp.Ordering.TheVariants.{Less, Equal, Greater}
-use Rattle.std.specs.declared.ops.Range.{Range}
 use Rattle.std.specs.Fn.{CalledAt}
+use Rattle.std.specs.Iterator.Runs.{Run, WholeRun}
 use Rattle.std.specs.Iterator.{KeyTurn, PicksMinByKey, Drains}
 use Rattle.std.specs.List.{FoldsTo, range_with_len}
+use Rattle.std.proofs.lemmas.Iterator.{YieldsList, YieldsList-from_range, items_from_drains}
 use Rattle.std.proofs.iter.Yields.{nat_range_steps}
-use Rattle.std.proofs.lemmas.Iterator.{YieldsList-from_range, items_from_drains}
 use Rattle.std.proofs.lemmas.Bool.Decides.{nat_tests}
 use Rattle.std.proofs.lemmas.List.{map-id}
 use denote.Param.Members.{Mut}
@@ -50,24 +50,34 @@ module _ {F K : Type 0} (g : Mut F (Bor ℕ × Unit {0}) K) (cmp : K → K → O
       rest t
       ∙ ap (first_best beats) (let d : m + 1 + n ≡ m + suc n = omega arith in d)
 
-  items : (s : Range ℕ) (n : ℕ) (xs : List ℕ) → s ≡ record { start = 0; end = n } → Drains nat_range_steps s xs → xs ≡ range_with_len 0 n
-  items s n xs e d = sym (map-id xs) ∙ items_from_drains xs (d.1.0, d.1.1, λ _. (d.0, d.1.2)) (YieldsList-from_range 0 n n e (omega arith))
+  module _ {S : Type 0} {steps : S → Option ℕ → S → Type 0} (s : S) where
+    items : (n : ℕ) (xs : List ℕ) → YieldsList steps (λ x. x) s (range_with_len 0 n) → Drains steps s xs → xs ≡ range_with_len 0 n
+    items n xs e d = sym (map-id xs) ∙ items_from_drains xs (d.1.0, d.1.1, λ _. (d.0, d.1.2)) e
 
-  pub first_by_key : (s : Range ℕ) (n : ℕ) (r : Option ℕ) → s ≡ record { start = 0; end = n } → PicksMinByKey nat_range_steps g cmp s f r → MatchOption r (n ≡ 0) (λ b. (1 ≤ n) × (b ≡ first_best beats n))
-  first_by_key s zero None e d = refl
-  first_by_key s (suc n) None e d = let z = items s (suc n) [] e d in cc
-  first_by_key s zero (Some y) e (x, xs, k, l, q, d, called, t) = let z = items s zero (x ∷ xs) e d in cc
-  first_by_key s (suc n) (Some y) e (x, xs, k, l, q, d, called, t) =
-      let given = acts x k l called in
-      let z = items s (suc n) (x ∷ xs) e d in
-      let first : x ≡ 0 = cc in
-      let rest : xs ≡ range_with_len 1 n = cc in
-      (omega arith, turns xs 1 n x y k l q given.0 given.1 (first ∙ sym (alike (beats 0 0))) rest t ∙ ap (first_best beats) (let j : 1 + n ≡ suc n = omega arith in j))
+    first_of_all : (n : ℕ) (r : Option ℕ) → PicksMinByKey steps g cmp s f r → YieldsList steps (λ x. x) s (range_with_len 0 n) → MatchOption r (n ≡ 0) (λ b. b ≡ first_best beats n)
+    first_of_all zero None d e = refl
+    first_of_all (suc n) None d e = let z = items (suc n) [] e d in cc
+    first_of_all zero (Some y) (x, xs, k, l, q, d, called, t) e = let z = items zero (x ∷ xs) e d in cc
+    first_of_all (suc n) (Some y) (x, xs, k, l, q, d, called, t) e =
+        let given = acts x k l called in
+        let z = items (suc n) (x ∷ xs) e d in
+        let first : x ≡ 0 = cc in
+        let rest : xs ≡ range_with_len 1 n = cc in
+        turns xs 1 n x y k l q given.0 given.1 (first ∙ sym (alike (beats 0 0))) rest t ∙ ap (first_best beats) (let j : 1 + n ≡ suc n = omega arith in j)
+
+-- where the axes come in order; the run of the call says by which steps they come
+pub first_by_key : {F K S : Type 0} {steps : S → Option ℕ → S → Type 0} {s : S} {P : Run steps → Type 0} → WholeRun steps s P → (g : Mut F (Bor ℕ × Unit {0}) K) (cmp : K → K → Ordering) (f : F) (r : Option ℕ)
+    → PicksMinByKey steps g cmp s f r → (h : ℕ → K) → ((x : ℕ) (k : K) (q : F) → CalledAt g f x k q → (q ≡ f) × (k ≡ h x)) → (beats : ℕ → ℕ → Bool) → ((i j : ℕ) → is_gt (cmp (h j) (h i)) ≡ beats i j)
+    → (n : ℕ) → YieldsList steps (λ x. x) s (range_with_len 0 n) → MatchOption r (n ≡ 0) (λ b. b ≡ first_best beats n)
+first_by_key {s = s} run g cmp f r ran h acts beats agree n e = first_of_all g cmp f h acts beats agree s n r ran e
+
+pub in_order : (n : ℕ) → YieldsList nat_range_steps (λ x. x) (record { start = 0; end = n }) (range_with_len 0 n)
+in_order n = YieldsList-from_range 0 n n refl (omega arith)
 
 -- by a number
 pub is_gt-nat_cmp : (a b : ℕ) → is_gt (nat_cmp a b) ≡ ltb b a
 is_gt-nat_cmp a b = grind (arith, nat_tests)
 
-pub first_or_0 : (beats : ℕ → ℕ → Bool) (n : ℕ) (r : Option ℕ) → MatchOption r (n ≡ 0) (λ b. (1 ≤ n) × (b ≡ first_best beats n)) → unwrap_or r 0 ≡ first_best beats n
+pub first_or_0 : (beats : ℕ → ℕ → Bool) (n : ℕ) (r : Option ℕ) → MatchOption r (n ≡ 0) (λ b. b ≡ first_best beats n) → unwrap_or r 0 ≡ first_best beats n
 first_or_0 beats n None e = sym (ap (first_best beats) e)
-first_or_0 beats n (Some b) e = e.1
+first_or_0 beats n (Some b) e = e

@@ -1,7 +1,7 @@
 -- Counting over places, over the elements of a list, and over the blocks of a patch.
 use Rattle.std.proofs.Common.{◌≡◌, ℕ, zero, suc, ◌+◌, ◌-◌, ◌*◌, ◌/◌, ◌%◌, ◌<◌, ◌≤◌, Bool, true, false, not, cond, ◌&&◌, eqb, ltb, List, length, get_or, take, drop, sym, refl, ap, ◌∙◌, ap₂, add-zero, add_assoc, add-suc, mod-lt, mul_assoc, suc-mul, zero-mul, div-lt_iff_lt-mul, add-mul, div-add-mod', le-div_iff_mul-le, zero-add, add-one, arith, le-ltb, lt-ltb, eq-eqb, ne_eqb, length-drop, sum, count_by}
 use Rattle.std.specs.List.{zip}
-use Rattle.std.proofs.lemmas.List.{take_all, get_or-drop, get_or_default}
+use Rattle.std.proofs.lemmas.List.{take_all, get_or-drop}
 use Rattle.std.proofs.lemmas.List.Sums.{sum_by_more}
 use Rattle.std.proofs.lemmas.Slice.Zip.{length-zip, get_or-zip}
 use lib.Arith.{digits_div, digits_mod}
@@ -32,7 +32,7 @@ pub tally_same : (p q : ℕ → Bool) (from to n : ℕ) → ((k : ℕ) → k < n
 tally_same p q from to zero h = refl
 tally_same p q from to (suc n) h = ap₂ (λ a t. a + cond t 1 0) (tally_same p q from to n (λ k l. h k (omega arith))) (h n (omega arith))
 
-tally_none : (p : ℕ → Bool) (from n : ℕ) → ((k : ℕ) → k < n → p (from + k) ≡ false) → tally p from n ≡ 0
+pub tally_none : (p : ℕ → Bool) (from n : ℕ) → ((k : ℕ) → k < n → p (from + k) ≡ false) → tally p from n ≡ 0
 tally_none p from zero h = refl
 tally_none p from (suc n) h = ap₂ (λ a t. a + cond t 1 0) (tally_none p from n (λ k l. h k (omega arith))) (h n (omega arith))
 
@@ -97,9 +97,9 @@ tally_of_pairs signs s =
     ∙ ap (tally (λ i. test (get_or pairs i (Zero, Zero))) 0) long
     ∙ tally_same (λ i. test (get_or pairs i (Zero, Zero))) (differ_at signs s) 0 0 (length signs - s)
     (λ k l.
-      ap (λ i. test (get_or pairs i (Zero, Zero))) (zero-add k)
-      ∙ ap test (get_or-zip signs (drop s signs) k (Zero, Zero) (omega arith) (omega (arith, length-drop s signs)))
-      ∙ ap₂ (λ i j. differ (get_or signs i Zero) j) (sym (zero-add k)) (get_or-drop s signs k Zero ∙ ap (λ i. get_or signs i Zero) (let e : s + k ≡ 0 + k + s = omega arith in e)))
+    ap (λ i. test (get_or pairs i (Zero, Zero))) (zero-add k)
+    ∙ ap test (get_or-zip signs (drop s signs) k (Zero, Zero) (omega arith) (omega (arith, length-drop s signs)))
+    ∙ ap₂ (λ i j. differ (get_or signs i Zero) j) (sym (zero-add k)) (get_or-drop s signs k Zero ∙ ap (λ i. get_or signs i Zero) (let e : s + k ≡ 0 + k + s = omega arith in e)))
 
 -- ---- the block b of a patch: n + 1 rows of s places
 module _ (n s b : ℕ) (some : 0 < s) where

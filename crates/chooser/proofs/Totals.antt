@@ -1,5 +1,5 @@
 -- The sums of what is counted in each piece of a patch.
-use Rattle.std.proofs.Common.{◌≡◌, ℕ, suc, ◌+◌, ◌-◌, ◌*◌, ◌/◌, ◌%◌, ◌<◌, ◌≤◌, Bool, true, ◌&&◌, eqb, ltb, List, length, get_or, Option, Some, None, IfSome, IsSomeAnd, sym, ap, ap₂, ◌∙◌, subst, arith, sum, zero-add, mul_assoc, add-mul}
+use Rattle.std.proofs.Common.{◌≡◌, ℕ, ◌+◌, ◌-◌, ◌*◌, ◌/◌, ◌<◌, ◌≤◌, Bool, true, List, length, get_or, Option, Some, None, IfSome, IsSomeAnd, sym, ap, ap₂, ◌∙◌, subst, arith, sum, zero-add, mul_assoc, add-mul}
 use Rattle.std.proofs.Math.Nat.{mul-le-mul_right, mul-div_cancel, lt_of_mul-lt-mul_right}
 use Rattle.std.specs.Option.{option_map}
 use Rattle.std.specs.Iterator.{ActsAs}
@@ -18,7 +18,7 @@ use Rattle.patch.specs.declared.shape.Shape.{Shape}
 use Rattle.algebra.specs.declared.sign.Sign.{Sign}
 use Rattle.algebra.specs.declared.sign.Sign.TheVariants.{Zero}
 use Rattle.chooser.specs.BySigns.{tally, is_negative, differ, differ_at, negative_at}
-use Rattle.chooser.specs.Rows.{Lie}
+use Rattle.chooser.specs.Rows.{Lie, changes_at, negative_in}
 use Rattle.chooser.proofs.Along.{some_block}
 use Rattle.chooser.proofs.Tallies.{tally_le, tally_same, sum_of_stretches, block_changes, block_row}
 
@@ -38,9 +38,9 @@ module _ {S T A F : Type 0} {steps : S → Option ℕ → S → Type 0} {source 
       let kept = m.2 (λ a r f' e. (acts a.0 r f' e).0) in
       let long : length p.items ≡ q.len = sym p.long ∙ m.1 in
       let total : sum p.items ≡ tally test 0 (q.len * size) =
-          sum_of_stretches test size p.items
-          (λ k l. value_at (λ x y. Called g f (x, tt) y f) h (Q k) (tally test (k * size) size) (get_or p.items k 0) (λ x y e. (acts x y f e).1) (is k) (p.at k) (q.at k) (kept.1 k) (items k) (p.reads k 0 (omega (arith, p.long))))
-          ∙ ap (λ n. tally test 0 (n * size)) long
+      sum_of_stretches test size p.items
+      (λ k l. value_at (λ x y. Called g f (x, tt) y f) h (Q k) (tally test (k * size) size) (get_or p.items k 0) (λ x y e. (acts x y f e).1) (is k) (p.at k) (q.at k) (kept.1 k) (items k) (p.reads k 0 (omega (arith, p.long))))
+      ∙ ap (λ n. tally test 0 (n * size)) long
       in
       (omega (arith, total, tally_le test 0 (q.len * size)), λ w. total ∙ ap (tally test 0) (all (m.0 ∙ w)))
 
@@ -48,13 +48,6 @@ pieces_as : {S : Type 0} {steps : S → Option (Bor (List Sign)) → S → Type 
 pieces_as q z size xs signs e s r = subst (λ w. IsChunksExactRun q w signs) e (subst (λ ys. IsChunksExactRun q z ys) s r)
 
 -- ---- along an axis
--- the tests of a place that are counted: it has a next row and another sign there; it has this index, and is negative
-abbrev pub changes_at : Shape → List Sign → ℕ → Bool
-changes_at shape signs i = ltb (i / shape.stride % suc shape.degree) shape.degree && differ_at signs shape.stride i
-
-abbrev pub negative_in : Shape → ℕ → List Sign → ℕ → Bool
-negative_in shape index signs i = eqb (i / shape.stride % suc shape.degree) index && negative_at signs i
-
 module _ (shape : Shape) (signs : List Sign) (lie : Lie shape (length signs)) where
   changes_of_block : (k : ℕ) (x : List Sign) → length x ≡ (shape.degree + 1) * shape.stride → IsSubsliceAt ((shape.degree + 1) * shape.stride) signs (k * ((shape.degree + 1) * shape.stride)) x
       → tally (differ_at x shape.stride) 0 (length x - shape.stride) ≡ tally (changes_at shape signs) (k * ((shape.degree + 1) * shape.stride)) ((shape.degree + 1) * shape.stride)
@@ -66,9 +59,9 @@ module _ (shape : Shape) (signs : List Sign) (lie : Lie shape (length signs)) wh
       ap (tally (differ_at x s) 0) short
       ∙ tally_same (differ_at x s) (differ_at signs s) 0 from (n * s)
       (λ i l.
-        ap₂ differ
-        (ap (λ j. get_or x j Zero) (zero-add i) ∙ sub.2 i Zero (omega (arith, next_row s n)))
-        (ap (λ j. get_or x (j + s) Zero) (zero-add i) ∙ sub.2 (i + s) Zero (omega (arith, next_row s n)) ∙ ap (λ j. get_or signs j Zero) (let a : from + (i + s) ≡ from + i + s = omega arith in a)))
+      ap₂ differ
+      (ap (λ j. get_or x j Zero) (zero-add i) ∙ sub.2 i Zero (omega (arith, next_row s n)))
+      (ap (λ j. get_or x (j + s) Zero) (zero-add i) ∙ sub.2 (i + s) Zero (omega (arith, next_row s n)) ∙ ap (λ j. get_or signs j Zero) (let a : from + (i + s) ≡ from + i + s = omega arith in a)))
       ∙ sym (block_changes n s k lie.some_stride (differ_at signs s))
 
   -- the index-th row of block k
@@ -84,7 +77,7 @@ module _ (shape : Shape) (signs : List Sign) (lie : Lie shape (length signs)) wh
       ap (tally (negative_at x) 0) e
       ∙ tally_same (negative_at x) (negative_at signs) 0 from s
       (λ i h.
-        ap is_negative (ap (λ j. get_or x j Zero) (zero-add i) ∙ sub.2 i Zero h ∙ ap (λ j. get_or signs (j + i) Zero) (row_place k index)))
+      ap is_negative (ap (λ j. get_or x j Zero) (zero-add i) ∙ sub.2 i Zero h ∙ ap (λ j. get_or signs (j + i) Zero) (row_place k index)))
       ∙ sym (block_row n s k lie.some_stride (negative_at signs) index l)
 
   module _ {F : Type 0} (g : Mut F (Bor (List Sign) × Unit {0}) ℕ) (f : F) (pieces : ChunksExact Sign)
@@ -135,6 +128,6 @@ module _ (shape : Shape) (signs : List Sign) (lie : Lie shape (length signs)) wh
         (λ k x h. negatives_of_row index l k x.now h.0 h.2)
         fits
         (λ h.
-          let every : t.len ≡ rows = r.1 (past.0 ∙ by.0 ∙ h) ∙ ap (λ c. c / s) (sym all) ∙ mul-div_cancel rows lie.some_stride in
-          let least : shape.blocks < q.len + 1 = lt_of_mul-lt-mul_right (n + 1) (omega (arith, by.2, past.1, every, next_row (n + 1) q.len)) in
-          ap (λ c. c * b) (let same : q.len ≡ shape.blocks = omega arith in same) ∙ lie.all)
+        let every : t.len ≡ rows = r.1 (past.0 ∙ by.0 ∙ h) ∙ ap (λ c. c / s) (sym all) ∙ mul-div_cancel rows lie.some_stride in
+        let least : shape.blocks < q.len + 1 = lt_of_mul-lt-mul_right (n + 1) (omega (arith, by.2, past.1, every, next_row (n + 1) q.len)) in
+        ap (λ c. c * b) (let same : q.len ≡ shape.blocks = omega arith in same) ∙ lie.all)

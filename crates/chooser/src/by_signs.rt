@@ -1,9 +1,9 @@
 // The axis along which the signs of a patch change most.
-ghost use Rattle.std.specs.Prelude.{◌≡◌, ◌-◌, ◌<◌, ◌≤◌, ◌==◌, false, length, slice_index, MatchOption};
+ghost use Rattle.std.specs.Prelude.{◌≡◌, ◌-◌, ◌≤◌, ◌==◌, false, length, MatchOption};
 ghost use Rattle.algebra.specs.Layout.{numbers};
-ghost use Rattle.chooser.specs.BySigns.{tally, negative_at, differ_at, changes as changes_along, negatives as negatives_along, most_changed, half_first, choice_by_signs, by_signs};
-ghost use Rattle.chooser.specs.Rows.{Lie};
+ghost use Rattle.chooser.specs.BySigns.{tally, negative_at, differ_at, changes as changes_along, most_changed, half_first, choice_by_signs, by_signs};
 ghost use Rattle.chooser.specs.Picking.{by_signs_picks};
+ghost use Rattle.chooser.specs.Rows.{Lie, changes_at, negative_in};
 ghost use Rattle.patch.specs.Shapes.{shape_of};
 
 use crate::chooser::Chooser;
@@ -18,7 +18,7 @@ fn negatives_in(row: &[Sign]) -> usize
     row.iter().filter(|sign| **sign == Sign::Negative).count()
 }
 
-// How many neighbours differ in a block: all its numbers but those of the last row have one, a stride further on.
+// How many neighbours in a block differ: all its numbers but those of the last row have one, a stride further on.
 fn changes_in(block: &[Sign], stride: usize) -> usize
     ensures { result ≡ tally (differ_at block.now stride) 0 (length block.now - stride) }
 {
@@ -27,6 +27,41 @@ fn changes_in(block: &[Sign], stride: usize) -> usize
         .zip(block.iter().skip(stride))
         .filter(|(a, b)| a != b)
         .count()
+}
+
+// The signs of a patch, as they lie along an axis.
+#[derive(Clone, Copy)]
+struct Rows<'s> {
+    shape: Shape,
+    signs: &'s [Sign],
+    ghost lie: { Lie shape (length signs.now) },
+}
+
+impl Rows<'_> {
+    // How many neighbour pairs differ in sign.
+    fn changes(&self) -> usize
+        ensures { result ≡ tally (changes_at self.now.shape self.now.signs.now) 0 (length self.now.signs.now) }
+    {
+        let rows = usize::from(self.shape.degree) + 1;
+        self.signs
+            .chunks_exact(rows * self.shape.stride)
+            .map(|block| changes_in(block, self.shape.stride))
+            .sum()
+    }
+
+    // How many negative numbers have an index along the axis: those of one row in each block.
+    fn negatives(&self, index: u8) -> usize
+        requires { index ≤ self.now.shape.degree }
+        ensures { result ≡ tally (negative_in self.now.shape index self.now.signs.now) 0 (length self.now.signs.now) }
+    {
+        let rows = usize::from(self.shape.degree) + 1;
+        self.signs
+            .chunks_exact(self.shape.stride)
+            .skip(usize::from(index))
+            .step_by(rows)
+            .map(negatives_in)
+            .sum()
+    }
 }
 
 // The signs of a patch, with its degrees.
@@ -49,62 +84,37 @@ impl<'d, 's> Patch<'d, 's> {
         }
     }
 
-    fn shape(&self, axis: usize) -> Shape
-        requires { axis < length self.now.degrees.now }
-        ensures is { result ≡ shape_of self.now.degrees.now axis }
-        ensures lies { Lie result (length self.now.signs.now) }
+    // None if there is no such axis.
+    fn along(&self, axis: usize) -> Option<Rows<'s>>
+        ensures { MatchOption result (length self.now.degrees.now ≤ axis) (λ r. (r.shape ≡ shape_of self.now.degrees.now axis) × (r.signs.now ≡ self.now.signs.now)) }
     {
-        match Shape::along(self.degrees, axis) {
-            Some(shape) => shape,
-            None => unreachable(),
-        }
+        let shape = Shape::along(self.degrees, axis)?;
+        Some(Rows {
+            shape,
+            signs: self.signs,
+        })
     }
 
-    // How many neighbour pairs along an axis differ in sign.
     fn changes(&self, axis: usize) -> usize
-        requires { axis < length self.now.degrees.now }
         ensures { result ≡ changes_along self.now.degrees.now self.now.signs.now axis }
     {
-        let shape = self.shape(axis);
-        let rows = usize::from(shape.degree) + 1;
-        self.signs
-            .chunks_exact(rows * shape.stride)
-            .map(|block| changes_in(block, shape.stride))
-            .sum()
-    }
-
-    // How many negative numbers have an index along an axis: those of one row in each block.
-    fn negatives(&self, axis: usize, index: u8) -> usize
-        requires axis { axis < length self.now.degrees.now }
-        requires index { index ≤ slice_index self.now.degrees.now axis }
-        ensures { result ≡ negatives_along self.now.degrees.now self.now.signs.now axis index }
-    {
-        let shape = self.shape(axis);
-        let rows = usize::from(shape.degree) + 1;
-        self.signs
-            .chunks_exact(shape.stride)
-            .skip(usize::from(index))
-            .step_by(rows)
-            .map(negatives_in)
-            .sum()
+        self.along(axis).map_or(0, |rows| rows.changes())
     }
 
     // The axis with most changes, the lowest on a tie, or none if there is no axis.
     fn most_changed(&self) -> Option<usize>
-        ensures { MatchOption result (length self.now.degrees.now ≡ 0) (λ j. (1 ≤ length self.now.degrees.now) × (j ≡ most_changed self.now.degrees.now self.now.signs.now)) }
+        ensures { MatchOption result (length self.now.degrees.now ≡ 0) (λ j. j ≡ most_changed self.now.degrees.now self.now.signs.now) }
     {
         (0..self.degrees.len()).min_by_key(|axis| Reverse(self.changes(*axis)))
     }
 
     // The upper half, if more negative numbers have the highest index along the axis than have index 0.
     fn half(&self, axis: usize) -> Half
-        requires { axis < length self.now.degrees.now }
         ensures { result ≡ half_first self.now.degrees.now self.now.signs.now axis }
     {
-        if self.negatives(axis, 0) < self.negatives(axis, self.degrees[axis]) {
-            Half::Upper
-        } else {
-            Half::Lower
+        match self.along(axis) {
+            Some(rows) if rows.negatives(0) < rows.negatives(rows.shape.degree) => Half::Upper,
+            _ => Half::Lower,
         }
     }
 

@@ -1,11 +1,9 @@
-use Rattle.std.proofs.Common.{◌≡◌, length, ℕ, Bool, not, ap, Bor, drop, ◌∙◌, rules}
-use Rattle.std.specs.List.{zip, filter}
-use Rattle.std.proofs.lemmas.Iterator.{YieldsList, YieldsList-from_slice, YieldsList-from_zip}
+use Rattle.std.proofs.Common.{Bool, drop, ◌∙◌, rules}
+use Rattle.std.specs.List.{zip}
+use Rattle.std.proofs.lemmas.Iterator.{YieldsList-from_slice, YieldsList-from_zip}
 use Rattle.std.proofs.lemmas.Iterator.Adapters.{YieldsList-from_skip}
 use Rattle.std.proofs.lemmas.Iterator.Consumers.{YieldsList-at, YieldsList-from_filter, count_from_yields_List}
 use Rattle.std.proofs.lemmas.List.Sums.{length-filter}
-use denote.Enum.Bare.{sameb}
-use Rattle.algebra.specs.contracts.sign.Sign.{the_type}
 use borrow.Author.Tests.{tests}
 use Rattle.algebra.specs.declared.sign.Sign.{Sign}
 use Rattle.chooser.specs.BySigns.{differ}

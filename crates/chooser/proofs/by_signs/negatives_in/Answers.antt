@@ -1,6 +1,6 @@
-use Rattle.std.proofs.Common.{rules, ◌≡◌, length, ℕ, ◌+◌, Bool, List, count_by, slice_index_or, ◌∙◌}
+use Rattle.std.proofs.Common.{rules, ◌≡◌, count_by, ◌∙◌}
 use Rattle.std.proofs.iter.runs.Made.{chains}
-use Rattle.chooser.specs.BySigns.{tally, negative_at, is_negative}
+use Rattle.chooser.specs.BySigns.{is_negative}
 use Rattle.algebra.specs.declared.sign.Sign.TheVariants.{Zero}
 use Rattle.chooser.proofs.Tallies.{tally_of_list}
 use Rattle.chooser.proofs.by_signs.negatives_in.Goals as goal

@@ -1,45 +1,20 @@
-use Rattle.std.proofs.Common.{rules, of_calls, ◌≡◌, ℕ, ◌+◌, ◌*◌, ◌^◌, ◌<◌, length, arith, ap, ◌∙◌}
-use borrow.Author.Tests.{tests}
-use Rattle.std.specs.Slice.Iter.{chunks_exact_size}
+use Rattle.std.proofs.Common.{rules, ◌≡◌, ℕ, Option, Some, None, MatchOption, List, length, ap, sym, ◌∙◌}
 use Rattle.algebra.specs.declared.sign.Sign.{Sign}
 use Rattle.patch.specs.declared.shape.Shape.{Shape}
 use Rattle.chooser.specs.BySigns.{tally}
-use Rattle.chooser.proofs.Along.{some_block, block_below}
-use Rattle.chooser.proofs.Totals.{changes_at, changes_of_blocks}
+use Rattle.chooser.specs.Rows.{changes_at}
+use Rattle.chooser.proofs.Along.{no_changes}
 use Rattle.chooser.proofs.by_signs.Patch.changes.Goals as goal
 
-pub overflow_mul-rows : goal.overflow_mul-rows
-overflow_mul-rows c =
-    let shape = c.shape-shape in
-    let h : length c.args.self.now.signs.now < 2 ^ 64 = search rules in
-    record { fits = omega (arith, block_below shape.result _ shape.ensures.lies, ap (λ n. (n + 1) * shape.result.stride) c.from-rows.ensures) }
-
-pub chunks_exact-requires : goal.chunks_exact-requires
-chunks_exact-requires c =
-    let shape = c.shape-shape in
-    omega (arith, some_block shape.result _ shape.ensures.lies, ap (λ n. (n + 1) * shape.result.stride) c.from-rows.ensures)
-
-pub sum-requires-clause-can : goal.sum-requires-clause-can
-sum-requires-clause-can c =
-    let shape = c.shape-shape in
-    let size = ap (chunks_exact_size {T = Sign}) c.map.ensures.source ∙ c.chunks_exact.ensures.size ∙ ap (λ n. (n + 1) * shape.result.stride) c.from-rows.ensures in
-    (omega (arith, size, some_block shape.result _ shape.ensures.lies), search of_calls)
-
-pub sum-requires-clause-fits : goal.sum-requires-clause-fits
-sum-requires-clause-fits c =
-    let shape = c.shape-shape in
-    let signs = c.args.self.now.signs.now in
-    let h : length signs < 2 ^ 64 = search rules in
-    λ p t e.
-      let sums = changes_of_blocks shape.result signs shape.ensures.lies _ _ _ c.chunks_exact.ensures.runs c.chunks_exact.ensures.rest _ c.map.ensures.runs
-          (c.chunks_exact.ensures.size ∙ ap (λ n. (n + 1) * shape.result.stride) c.from-rows.ensures) (λ x y q k. search (rules, tests)) p e in
-      omega (arith, sums.0)
+-- with an axis or without
+either : {A P : Type 0} {Q S : A → Type 0} (o : Option A) (n m : ℕ) → MatchOption o P Q → MatchOption o (n ≡ 0) S → (P → m ≡ 0) → ((x : A) → Q x → S x → n ≡ m) → n ≡ m
+either None n m p e none some = e ∙ sym (none p)
+either (Some x) n m q s none some = some x q s
 
 pub returns : goal.returns
 returns c =
-    let shape = c.shape-shape in
-    let signs = c.args.self.now.signs.now in
-    let (p, e, w, total) = c.sum.ensures.runs tt in
-    let sums = changes_of_blocks shape.result signs shape.ensures.lies _ _ _ c.chunks_exact.ensures.runs c.chunks_exact.ensures.rest _ c.map.ensures.runs
-        (c.chunks_exact.ensures.size ∙ ap (λ n. (n + 1) * shape.result.stride) c.from-rows.ensures) (λ x y q k. search (rules, tests)) p e in
-    total ∙ sums.1 w ∙ ap (λ (s : Shape). tally (changes_at s signs) 0 (length signs)) shape.ensures.is
+    let patch = c.args.self.now in
+    either c.along.result _ _ c.along.ensures c.map_or.ensures (no_changes patch.degrees.now patch.signs.now c.args.axis)
+    (λ rows lies counted.
+    let n : c.map_or.result ≡ tally (changes_at rows.shape rows.signs.now) 0 (length rows.signs.now) = search rules in
+    n ∙ ap (λ (s : List Sign). tally (changes_at rows.shape s) 0 (length s)) lies.1 ∙ ap (λ (s : Shape). tally (changes_at s patch.signs.now) 0 (length patch.signs.now)) lies.0)
