@@ -14,9 +14,6 @@ pub record First (beats : ℕ → ℕ → Bool) (n b : ℕ) : Type 0 where
   pub unbeaten : (k : ℕ) → k < n → beats k b ≡ false
   pub lowest : (k : ℕ) → k < b → beats b k ≡ true
 
-clash : {A : Type 0} (t : Bool) → t ≡ true → t ≡ false → A
-clash t p q = absurd (let z : ◌≡◌ {A = ℕ} 0 1 = cc in let w : ⊥ = omega arith in w)
-
 module _ (beats : ℕ → ℕ → Bool) (o : IsStrictWeakOrder beats) where
   not_itself : (t : Bool) (k : ℕ) → beats k k ≡ t → beats k k ≡ false
   not_itself true k e = o.one_way k k e
@@ -25,7 +22,7 @@ module _ (beats : ℕ → ℕ → Bool) (o : IsStrictWeakOrder beats) where
   -- what beats the best beats all that the best is not beaten by
   beats_too : (t : Bool) (x b k : ℕ) → beats x b ≡ true → beats k b ≡ false → beats x k ≡ t → beats x k ≡ true
   beats_too true x b k p q e = e
-  beats_too false x b k p q e = clash (beats x b) p (o.chain x k b e q)
+  beats_too false x b k p q e = let r : beats x b ≡ false = o.chain x k b e q in cc
 
   module _ (n b : ℕ) (f : First beats n b) where
     one_more : (t : Bool) → beats n b ≡ t → First beats (suc n) (cond t n b)
@@ -43,7 +40,7 @@ module _ (beats : ℕ → ℕ → Bool) (o : IsStrictWeakOrder beats) where
         }
 
   at_one : (t : Bool) → beats 0 0 ≡ t → First beats 1 (cond t 0 0)
-  at_one true e = clash (beats 0 0) e (o.one_way 0 0 e)
+  at_one true e = let r : beats 0 0 ≡ false = o.one_way 0 0 e in absurd (let z : ⊥ = cc in z)
   at_one false e = record { inside = omega arith; unbeaten = λ k l. let s : k ≡ 0 = omega arith in ap (λ m. beats m 0) s ∙ e; lowest = λ k l. absurd (let z : ⊥ = omega arith in z) }
 
   pub first_is : (n : ℕ) → 1 ≤ n → First beats n (first_best beats n)

@@ -1,7 +1,7 @@
 // The axis along which the signs of a patch change most.
 ghost use Rattle.std.specs.Prelude.{◌≡◌, ◌-◌, ◌≤◌, ◌==◌, false, length, MatchOption};
 ghost use Rattle.algebra.specs.Layout.{numbers};
-ghost use Rattle.chooser.specs.BySigns.{tally, negative_at, differ_at, changes as changes_along, most_changed, half_first, choice_by_signs, by_signs};
+ghost use Rattle.chooser.specs.BySigns.{tally, negative_at, differ_at, changes, most_changed, half_first, choice_by_signs, by_signs};
 ghost use Rattle.chooser.specs.Picking.{by_signs_picks};
 ghost use Rattle.chooser.specs.Rows.{Lie, changes_at, negative_in};
 ghost use Rattle.patch.specs.Shapes.{shape_of};
@@ -96,7 +96,7 @@ impl<'d, 's> Patch<'d, 's> {
     }
 
     fn changes(&self, axis: usize) -> usize
-        ensures { result ≡ changes_along self.now.degrees.now self.now.signs.now axis }
+        ensures { result ≡ changes self.now.degrees.now self.now.signs.now axis }
     {
         self.along(axis).map_or(0, |rows| rows.changes())
     }

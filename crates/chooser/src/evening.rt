@@ -1,7 +1,7 @@
 // A layer that keeps the halvings of the axes close to each other.
-ghost use Rattle.std.specs.Prelude.{◌≡◌, true, false, MatchResult, slice_index};
+ghost use Rattle.std.specs.Prelude.{◌≡◌, true, false, MatchResult};
 ghost use Rattle.chooser.specs.Asked.{asked};
-ghost use Rattle.chooser.specs.Evening.{is_gap, gap_refusal_number, halved, least_halved, evening as evened_by};
+ghost use Rattle.chooser.specs.Evening.{is_gap, gap_refusal_number, halved, least_halved, evening};
 ghost use Rattle.chooser.specs.Picking.{evening_picks};
 
 use crate::chooser::Chooser;
@@ -64,7 +64,7 @@ impl Question<'_, '_, '_> {
 }
 
 impl<C: Chooser> Chooser for Evening<C> {
-    ghost meaning = { λ e. evened_by e.gap (C.Chooser.meaning e.below) };
+    ghost meaning = { λ e. evening e.gap (C.Chooser.meaning e.below) };
 
     ghost picks = { λ c. evening_picks c.gap (C.Chooser.meaning c.below) (C.Chooser.picks c.below) };
 

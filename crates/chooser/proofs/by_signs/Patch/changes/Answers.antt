@@ -1,10 +1,18 @@
-use Rattle.std.proofs.Common.{rules, ◌≡◌, ℕ, Option, Some, None, MatchOption, List, length, ap, sym, ◌∙◌}
+use Rattle.std.proofs.Common.{rules, ◌≡◌, ℕ, ◌+◌, ◌≤◌, ◌&&◌, ltb, le-ltb, get_or, arith, Option, Some, None, MatchOption, List, length, ap, sym, ◌∙◌}
+use Rattle.std.proofs.lemmas.List.{get_or_past}
+use Rattle.algebra.specs.Layout.{stride, along}
 use Rattle.algebra.specs.declared.sign.Sign.{Sign}
 use Rattle.patch.specs.declared.shape.Shape.{Shape}
-use Rattle.chooser.specs.BySigns.{tally}
+use Rattle.chooser.specs.BySigns.{tally, changes, differ_at}
 use Rattle.chooser.specs.Rows.{changes_at}
-use Rattle.chooser.proofs.Along.{no_changes}
+use Rattle.chooser.proofs.Tallies.{tally_none}
 use Rattle.chooser.proofs.by_signs.Patch.changes.Goals as goal
+
+-- where there is no axis nothing changes along it
+no_changes : (ns : List ℕ) (signs : List Sign) (j : ℕ) → length ns ≤ j → changes ns signs j ≡ 0
+no_changes ns signs j l =
+    tally_none (λ i. ltb (along ns j i) (get_or ns j 0) && differ_at signs (stride ns j) i) 0 (length signs)
+    (λ k _. ap (λ t. t && differ_at signs (stride ns j) (0 + k)) (le-ltb (along ns j (0 + k)) (get_or ns j 0) (omega (arith, get_or_past ns j 0 l))))
 
 -- with an axis or without
 either : {A P : Type 0} {Q S : A → Type 0} (o : Option A) (n m : ℕ) → MatchOption o P Q → MatchOption o (n ≡ 0) S → (P → m ≡ 0) → ((x : A) → Q x → S x → n ≡ m) → n ≡ m
