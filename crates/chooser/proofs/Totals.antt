@@ -1,8 +1,8 @@
 -- The sums of what is counted in each piece of a patch.
-use Rattle.std.proofs.Common.{◌≡◌, ℕ, ◌+◌, ◌-◌, ◌*◌, ◌/◌, ◌<◌, ◌≤◌, Bool, true, List, length, get_or, Option, Some, None, IfSome, IsSomeAnd, sym, ap, ap₂, ◌∙◌, subst, arith, sum, zero-add, mul_assoc, add-mul}
+use Rattle.std.proofs.Common.{◌≡◌, ℕ, ◌+◌, ◌-◌, ◌*◌, ◌/◌, ◌<◌, ◌≤◌, Bool, true, List, [], ◌∷◌, refl, length, get_or, Option, Some, None, IfSome, IsSomeAnd, sym, ap, ap₂, ◌∙◌, subst, arith, sum, zero-add, mul_assoc, add-mul}
 use Rattle.std.proofs.Math.Nat.{mul-le-mul_right, mul-div_cancel, lt_of_mul-lt-mul_right}
 use Rattle.std.specs.Option.{option_map}
-use Rattle.std.specs.Iterator.{ActsAs}
+use Rattle.std.specs.Iterator.{ActsAs, Yields, CallableAtEachTurn}
 use Rattle.std.specs.Iterator.Adapters.{map_steps, skip_steps, step_by_steps}
 use Rattle.std.specs.Iterator.Runs.{Run, EachRunFrom, EveryRun, SomeRun, IsMapRun, IsSkipRun, IsStepByRun, IsChunksExactRun}
 use Rattle.std.specs.Slice.Iter.{chunks_exact_size, chunks_exact_rest, chunks_exact_steps}
@@ -10,7 +10,7 @@ use Rattle.std.specs.declared.slice.ChunksExact.{ChunksExact}
 use Rattle.std.specs.declared.iter.Map.{Map}
 use Rattle.std.specs.declared.iter.Skip.{Skip}
 use Rattle.std.specs.declared.iter.StepBy.{StepBy}
-use Rattle.std.specs.List.{IsSubsliceAt}
+use Rattle.std.specs.List.{IsSubsliceAt, FoldsTo}
 use denote.Param.Members.{Mut, Called}
 use denote.Ref.{Bor}
 use Rattle.patch.proofs.Rows.{next_row}
@@ -46,6 +46,22 @@ module _ {S T A F : Type 0} {steps : S → Option ℕ → S → Type 0} {source 
 
 pieces_as : {S : Type 0} {steps : S → Option (Bor (List Sign)) → S → Type 0} (q : Run steps) (z size : ℕ) (xs signs : List Sign) → z ≡ size → xs ≡ signs → IsChunksExactRun q z xs → IsChunksExactRun q size signs
 pieces_as q z size xs signs e s r = subst (λ w. IsChunksExactRun q w signs) e (subst (λ ys. IsChunksExactRun q z ys) s r)
+
+-- a closure that calls leave as it is may be called at each block, where it may be at each of their size
+module _ {F : Type 0} (R : F → Bor (List Sign) → F → Type 0) (f : F) (keeps : (x : Bor (List Sign)) (q : F) → R f x q → q ≡ f) where
+  walk : (xs : List (Bor (List Sign))) (s t : ChunksExact Sign) (p q : F) → p ≡ f → Yields (chunks_exact_steps {A = Sign}) s xs t → FoldsTo R p xs q → (chunks_exact_size t ≡ chunks_exact_size s) × (q ≡ f)
+  walk [] s t p q e y r = (ap (chunks_exact_size {T = Sign}) (sym y), sym r ∙ e)
+  walk (x ∷ xs) s t p q e (j, step, y) (k, r, z) =
+      let rest = walk xs j t k q (keeps x k (subst (λ u. R u x k) e r)) y z in
+      (rest.0 ∙ step.0, rest.1)
+
+  pub serves_blocks : (Q : F → Bor (List Sign) → Type 0) (s : ChunksExact Sign) → ((x : Bor (List Sign)) → length x.now ≡ chunks_exact_size s → Q f x) → CallableAtEachTurn (chunks_exact_steps {A = Sign}) R Q s f
+  serves_blocks Q s fits =
+      record {
+        at = λ xs t q x u y r step.
+            let w = walk xs s t f q refl y r in
+            subst (λ u. Q u x) (sym w.1) (fits x (step.1.1 ∙ w.0));
+      }
 
 -- ---- along an axis
 module _ (shape : Shape) (signs : List Sign) (lie : Lie shape (length signs)) where

@@ -20,11 +20,12 @@ fn negatives_in(row: &[Sign]) -> usize
 
 // How many neighbours in a block differ: all its numbers but those of the last row have one, a stride further on.
 fn changes_in(block: &[Sign], stride: usize) -> usize
+    requires { stride ≤ length block.now }
     ensures { result ≡ tally (differ_at block.now stride) 0 (length block.now - stride) }
 {
     block
         .iter()
-        .zip(block.iter().skip(stride))
+        .zip(&block[stride..])
         .filter(|(a, b)| a != b)
         .count()
 }
