@@ -1,30 +1,21 @@
--- A patch along one of its axes: what is counted row by row is what the definitions count.
-use Rattle.std.proofs.Common.{◌≡◌, ℕ, ◌<◌, ◌≤◌, cond, List, length, get_or, sym, ap, ◌∙◌, subst, arith, le-ltb, lt-ltb}
+-- A patch along one of its axes: its blocks are all of it.
+use Rattle.std.proofs.Common.{◌≡◌, ℕ, ◌+◌, ◌*◌, ◌<◌, ◌≤◌, List, length, take, sym, ◌∙◌, subst, arith, le-mul_of_pos_right, mul_comm}
 use Rattle.algebra.specs.Layout.{numbers}
-use Rattle.algebra.specs.declared.half.Half.TheVariants.{Lower, Upper}
-use Rattle.algebra.specs.declared.sign.Sign.{Sign}
+use Rattle.algebra.proofs.Places.{numbers_positive}
 use Rattle.patch.proofs.Counting.{size_is, stride_positive}
-use Rattle.chooser.specs.BySigns.{tally, changes, negatives, half_first}
-use Rattle.chooser.specs.Rows.{rows_along, Lie, changes_at, negative_in}
-use Rattle.chooser.specs.declared.rows.Rows.{Rows}
+use Rattle.patch.specs.Shapes.{shape_of}
+use Rattle.patch.specs.declared.shape.Shape.{Shape}
+use Rattle.chooser.specs.Rows.{Lie}
 
-module _ (ns : List ℕ) (j : ℕ) (rows : Rows) (e : rows ≡ rows_along ns j) where
-  pub lie_along : (count : ℕ) → j < length ns → numbers ns ≡ count → Lie rows count
-  lie_along count l h = subst (λ r. Lie r count) (sym e) (record { all = size_is ns j l ∙ h; some = stride_positive ns j l })
+pub lie_along : (ns : List ℕ) (j : ℕ) (shape : Shape) (count : ℕ) → shape ≡ shape_of ns j → j < length ns → numbers ns ≡ count → Lie shape count
+lie_along ns j shape count e l h = subst (λ s. Lie s count) (sym e) (record { all = size_is ns j l ∙ h; some_blocks = numbers_positive (take j ns); some_stride = stride_positive ns j l })
 
-  module _ (signs : List Sign) where
-    pub changes_are : tally (changes_at rows signs) 0 (length signs) ≡ changes ns signs j
-    changes_are = ap (λ r. tally (changes_at r signs) 0 (length signs)) e
+module _ (shape : Shape) (count : ℕ) (lie : Lie shape count) where
+  pub some_block : 0 < (shape.degree + 1) * shape.stride
+  some_block = let p = lie.some_stride in omega (arith, le-mul_of_pos_right (shape.degree + 1) p)
 
-    lowest_are : tally (negative_in rows 0 signs) 0 (length signs) ≡ negatives ns signs j 0
-    lowest_are = ap (λ r. tally (negative_in r 0 signs) 0 (length signs)) e
-
-    highest_are : tally (negative_in rows rows.degree signs) 0 (length signs) ≡ negatives ns signs j (get_or ns j 0)
-    highest_are = ap (λ r. tally (negative_in r r.degree signs) 0 (length signs)) e
-
-    module _ (x y : ℕ) (p : x ≡ tally (negative_in rows 0 signs) 0 (length signs)) (q : y ≡ tally (negative_in rows rows.degree signs) 0 (length signs)) where
-      pub upper_first : x < y → Upper ≡ half_first ns signs j
-      upper_first l = ap (λ t. cond t Upper Lower) (sym (lt-ltb (negatives ns signs j 0) (negatives ns signs j (get_or ns j 0)) (omega (arith, p ∙ lowest_are, q ∙ highest_are))))
-
-      pub lower_first : y ≤ x → Lower ≡ half_first ns signs j
-      lower_first l = ap (λ t. cond t Upper Lower) (sym (le-ltb (negatives ns signs j 0) (negatives ns signs j (get_or ns j 0)) (omega (arith, p ∙ lowest_are, q ∙ highest_are))))
+  pub block_below : (shape.degree + 1) * shape.stride ≤ count
+  block_below =
+      let b : ℕ = (shape.degree + 1) * shape.stride in
+      let p = lie.some_blocks in
+      omega (arith, lie.all, le-mul_of_pos_right b p, mul_comm b shape.blocks)

@@ -32,7 +32,7 @@ module _ (ns : List ℕ) (signs : List Sign) (j i : ℕ) (h : j < length ns) (l 
   negative_is k = ap₂ ◌&&◌ (ap (λ m. eqb m k) along_index) (ap is_negative here)
 
 same_below : (p q : ℕ → Bool) (n : ℕ) → ((k : ℕ) → k < n → p k ≡ q k) → tally p 0 n ≡ tally q 0 n
-same_below p q n h = tally_same p q 0 n (λ k l. ap p (zero-add k) ∙ h k l ∙ sym (ap q (zero-add k)))
+same_below p q n h = tally_same p q 0 0 n (λ k l. ap p (zero-add k) ∙ h k l ∙ sym (ap q (zero-add k)))
 
 pub changes_are_by_index : ChangesAreByIndex
 changes_are_by_index ns signs j h e =

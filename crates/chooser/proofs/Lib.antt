@@ -1,5 +1,7 @@
 pub mod Tallies
+pub mod Totals
 pub mod Along
+pub mod Firsts
 pub mod ByIndex
 pub mod Even
 pub mod Examples

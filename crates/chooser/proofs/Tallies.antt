@@ -1,27 +1,24 @@
--- Counting over places, and over the blocks of a patch.
-use Rattle.std.proofs.Common.{◌≡◌, ℕ, zero, suc, ◌+◌, ◌-◌, ◌*◌, ◌/◌, ◌%◌, ◌<◌, ◌≤◌, Bool, true, false, cond, ◌&&◌, eqb, ltb, sym, refl, ap, ◌∙◌, ap₂, add-zero, add_assoc, add-suc, mod-lt, mul_assoc, suc-mul, div-lt_iff_lt-mul, add-mul, div-add-mod', le-div_iff_mul-le, zero-add, add-one, arith, le-ltb, lt-ltb, eq-eqb, ne_eqb}
+-- Counting over places, over the elements of a list, and over the blocks of a patch.
+use Rattle.std.proofs.Common.{◌≡◌, ℕ, zero, suc, ◌+◌, ◌-◌, ◌*◌, ◌/◌, ◌%◌, ◌<◌, ◌≤◌, Bool, true, false, not, cond, ◌&&◌, eqb, ltb, List, length, get_or, take, drop, sym, refl, ap, ◌∙◌, ap₂, add-zero, add_assoc, add-suc, mod-lt, mul_assoc, suc-mul, zero-mul, div-lt_iff_lt-mul, add-mul, div-add-mod', le-div_iff_mul-le, zero-add, add-one, arith, le-ltb, lt-ltb, eq-eqb, ne_eqb, length-drop, sum, count_by}
+use Rattle.std.specs.List.{zip}
+use Rattle.std.proofs.lemmas.List.{take_all, get_or-drop}
+use Rattle.std.proofs.lemmas.List.Sums.{sum_by_more}
+use Rattle.std.proofs.lemmas.Slice.Zip.{length-zip, get_or-zip}
 use lib.Arith.{digits_div, digits_mod}
-use Rattle.patch.proofs.Rows.{row_end, next_row}
-use Rattle.chooser.specs.BySigns.{tally}
+use denote.Enum.Bare.{sameb}
+use Rattle.algebra.specs.contracts.sign.Sign.{the_type}
+use Rattle.patch.proofs.Rows.{next_row}
+use Rattle.algebra.specs.declared.sign.Sign.{Sign}
+use Rattle.algebra.specs.declared.sign.Sign.TheVariants.{Negative, Zero, Positive}
+use Rattle.chooser.specs.BySigns.{tally, differ, differ_at}
 
-pub one_at_most : (t : Bool) → cond t 1 0 ≤ 1
+one_at_most : (t : Bool) → cond t 1 0 ≤ 1
 one_at_most true = omega arith
 one_at_most false = omega arith
 
 pub tally_le : (test : ℕ → Bool) (from n : ℕ) → tally test from n ≤ n
 tally_le test from zero = omega arith
 tally_le test from (suc n) = omega (arith, tally_le test from n, one_at_most (test (from + n)))
-
--- ---- a loop has come to place k
-module _ (test : ℕ → Bool) (from k m : ℕ) (e : m ≡ tally test from k) where
-  next : tally test from (k + 1) ≡ m + cond (test (from + k)) 1 0
-  next = ap (tally test from) (add-one k) ∙ ap (λ t. t + cond (test (from + k)) 1 0) (sym e)
-
-  pub tally_yes : test (from + k) ≡ true → m + 1 ≡ tally test from (k + 1)
-  tally_yes h = sym (next ∙ ap (λ t. m + cond t 1 0) h)
-
-  pub tally_no : test (from + k) ≡ false → m ≡ tally test from (k + 1)
-  tally_no h = sym (next ∙ ap (λ t. m + cond t 1 0) h ∙ add-zero m)
 
 -- ---- parts
 pub tally_parts : (test : ℕ → Bool) (from m n : ℕ) → tally test from (m + n) ≡ tally test from m + tally test (from + m) n
@@ -31,9 +28,9 @@ tally_parts test from m (suc n) =
     ∙ ap₂ (λ a b. a + cond (test b) 1 0) (tally_parts test from m n) (sym (add_assoc from m n))
     ∙ add_assoc (tally test from m) (tally test (from + m) n) (cond (test (from + m + n)) 1 0)
 
-pub tally_same : (p q : ℕ → Bool) (from n : ℕ) → ((k : ℕ) → k < n → p (from + k) ≡ q (from + k)) → tally p from n ≡ tally q from n
-tally_same p q from zero h = refl
-tally_same p q from (suc n) h = ap₂ (λ a t. a + cond t 1 0) (tally_same p q from n (λ k l. h k (omega arith))) (h n (omega arith))
+pub tally_same : (p q : ℕ → Bool) (from to n : ℕ) → ((k : ℕ) → k < n → p (from + k) ≡ q (to + k)) → tally p from n ≡ tally q to n
+tally_same p q from to zero h = refl
+tally_same p q from to (suc n) h = ap₂ (λ a t. a + cond t 1 0) (tally_same p q from to n (λ k l. h k (omega arith))) (h n (omega arith))
 
 pub tally_none : (p : ℕ → Bool) (from n : ℕ) → ((k : ℕ) → k < n → p (from + k) ≡ false) → tally p from n ≡ 0
 tally_none p from zero h = refl
@@ -48,23 +45,66 @@ window all test from u v w before here after =
     (tally_none all from u before)
     (tally_parts all (from + u) v w
     ∙ ap₂ ◌+◌
-    (tally_same all test (from + u) v (λ k l. ap all (add_assoc from u k) ∙ here k l ∙ ap test (sym (add_assoc from u k))))
+    (tally_same all test (from + u) (from + u) v (λ k l. ap all (add_assoc from u k) ∙ here k l ∙ ap test (sym (add_assoc from u k))))
     (tally_none all (from + u + v) w (λ k l. ap all (let e : from + u + v + k ≡ from + (u + (v + k)) = omega arith in e) ∙ after k l))
     ∙ add-zero (tally test (from + u) v))
     ∙ zero-add (tally test (from + u) v)
 
--- ---- a loop over blocks of one size has come to block b, of which x places pass
-module _ (test : ℕ → Bool) (size b found x : ℕ) (e : found ≡ tally test 0 (b * size)) (f : x ≡ tally test (b * size) size) where
-  pub blocks_more : found + x ≡ tally test 0 ((b + 1) * size)
-  blocks_more = ap₂ ◌+◌ e (f ∙ ap (λ i. tally test i size) (sym (zero-add (b * size)))) ∙ sym (tally_parts test 0 (b * size) size) ∙ ap (tally test 0) (sym (next_row size b))
+-- xs says of each stretch of one size how many of its places pass: the first n of them add up to what passes in n stretches
+sum_front : (test : ℕ → Bool) (size : ℕ) (xs : List ℕ) → ((k : ℕ) → k < length xs → get_or xs k 0 ≡ tally test (k * size) size)
+    → (n : ℕ) → n ≤ length xs → sum (take n xs) ≡ tally test 0 (n * size)
+sum_front test size xs each zero l = ap (tally test 0) (sym (zero-mul size))
+sum_front test size xs each (suc n) l =
+    ap (λ m. sum (take m xs)) (sym (add-one n))
+    ∙ sum_by_more (λ x. x) xs n 0 l
+    ∙ ap₂ ◌+◌ (sum_front test size xs each n (omega arith)) (each n l ∙ ap (λ i. tally test i size) (sym (zero-add (n * size))))
+    ∙ sym (tally_parts test 0 (n * size) size)
+    ∙ ap (tally test 0) (sym (suc-mul n size))
 
-  pub blocks_below : (blocks : ℕ) → b < blocks → found + x ≤ blocks * size
-  blocks_below blocks l = omega (arith, blocks_more, tally_le test 0 ((b + 1) * size), next_row size b, row_end size b blocks l)
+pub sum_of_stretches : (test : ℕ → Bool) (size : ℕ) (xs : List ℕ) → ((k : ℕ) → k < length xs → get_or xs k 0 ≡ tally test (k * size) size) → sum xs ≡ tally test 0 (length xs * size)
+sum_of_stretches test size xs each = ap sum (sym (take_all (length xs) xs (omega arith))) ∙ sum_front test size xs each (length xs) (omega arith)
+
+-- ---- the elements of a list
+count_front : {X : Type 0} (p : X → Bool) (xs : List X) (d : X) (n : ℕ) → n ≤ length xs → count_by p (take n xs) ≡ tally (λ i. p (get_or xs i d)) 0 n
+count_front p xs d zero l = refl
+count_front p xs d (suc n) l =
+    ap (λ m. count_by p (take m xs)) (sym (add-one n))
+    ∙ sum_by_more (λ x. cond (p x) 1 0) xs n d l
+    ∙ ap₂ (λ a i. a + cond (p (get_or xs i d)) 1 0) (count_front p xs d n (omega arith)) (sym (zero-add n))
+
+pub tally_of_list : {X : Type 0} (p : X → Bool) (xs : List X) (d : X) → count_by p xs ≡ tally (λ i. p (get_or xs i d)) 0 (length xs)
+tally_of_list p xs d = ap (count_by p) (sym (take_all (length xs) xs (omega arith))) ∙ count_front p xs d (length xs) (omega arith)
+
+-- `!=` on signs, which compares the places of their variants
+pub differ_is : (a b : Sign) → not (sameb the_type a b) ≡ differ a b
+differ_is Negative Negative = refl
+differ_is Negative Zero = refl
+differ_is Negative Positive = refl
+differ_is Zero Negative = refl
+differ_is Zero Zero = refl
+differ_is Zero Positive = refl
+differ_is Positive Negative = refl
+differ_is Positive Zero = refl
+differ_is Positive Positive = refl
+
+-- of the pairs of an element and the one a stride further on
+pub tally_of_pairs : (signs : List Sign) (s : ℕ) → count_by (λ (p : Sign × Sign). differ p.0 p.1) (zip signs (drop s signs)) ≡ tally (differ_at signs s) 0 (length signs - s)
+tally_of_pairs signs s =
+    let test : Sign × Sign → Bool = λ p. differ p.0 p.1 in
+    let pairs : List (Sign × Sign) = zip signs (drop s signs) in
+    let long : length pairs ≡ length signs - s = omega (arith, length-zip signs (drop s signs), length-drop s signs) in
+    tally_of_list test pairs (Zero, Zero)
+    ∙ ap (tally (λ i. test (get_or pairs i (Zero, Zero))) 0) long
+    ∙ tally_same (λ i. test (get_or pairs i (Zero, Zero))) (differ_at signs s) 0 0 (length signs - s)
+    (λ k l.
+    ap (λ i. test (get_or pairs i (Zero, Zero))) (zero-add k)
+    ∙ ap test (get_or-zip signs (drop s signs) k (Zero, Zero) (omega arith) (omega (arith, length-drop s signs)))
+    ∙ ap₂ (λ i j. differ (get_or signs i Zero) j) (sym (zero-add k)) (get_or-drop s signs k Zero ∙ ap (λ i. get_or signs i Zero) (let e : s + k ≡ 0 + k + s = omega arith in e)))
 
 -- ---- the block b of a patch: n + 1 rows of s places
 module _ (n s b : ℕ) (some : 0 < s) where
   -- the row of a place in the block
-  pub row_in_block : (k : ℕ) → k < (n + 1) * s → (b * ((n + 1) * s) + k) / s % suc n ≡ k / s
+  row_in_block : (k : ℕ) → k < (n + 1) * s → (b * ((n + 1) * s) + k) / s % suc n ≡ k / s
   row_in_block k l =
       let r : ℕ = k / s in
       let e : b * ((n + 1) * s) + k ≡ (b * suc n + k / s) * s + k % s = omega (arith, div-add-mod' k s, add-mul (b * suc n) (k / s) s, mul_assoc b (suc n) s, ap (λ m. b * (m * s)) (add-one n)) in
@@ -79,7 +119,7 @@ module _ (n s b : ℕ) (some : 0 < s) where
       ap (tally all from) (next_row s n)
       ∙ tally_parts all from (n * s) s
       ∙ ap₂ ◌+◌
-      (tally_same all test from (n * s) (λ k l. ap (λ t. t && test (from + k)) (ap (λ r. ltb r n) (row_in_block k (omega (arith, next_row s n))) ∙ lt-ltb (k / s) n ((div-lt_iff_lt-mul {k = s} {x = k} {y = n} some).1 l))))
+      (tally_same all test from from (n * s) (λ k l. ap (λ t. t && test (from + k)) (ap (λ r. ltb r n) (row_in_block k (omega (arith, next_row s n))) ∙ lt-ltb (k / s) n ((div-lt_iff_lt-mul {k = s} {x = k} {y = n} some).1 l))))
       (tally_none all (from + n * s) s (λ k l. ap (λ t. t && test (from + n * s + k)) (ap (λ i. ltb (i / s % suc n) n) (add_assoc from (n * s) k) ∙ ap (λ r. ltb r n) (row_in_block (n * s + k) (omega (arith, next_row s n)) ∙ digits_div n l) ∙ le-ltb n n (omega arith))))
       ∙ add-zero (tally test from (n * s))
 

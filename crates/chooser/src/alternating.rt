@@ -1,5 +1,5 @@
 // The axes in turn.
-ghost use Rattle.chooser.specs.Alternating.{alternating as in_turn};
+ghost use Rattle.chooser.specs.Alternating.{alternating};
 ghost use Rattle.std.proofs.Common.{rules};
 
 use crate::chooser::Chooser;
@@ -11,7 +11,7 @@ use algebra::Half;
 pub struct Alternating;
 
 impl Chooser for Alternating {
-    ghost meaning = { λ _. in_turn };
+    ghost meaning = { λ _. alternating };
 
     ghost picks = { Prim.search rules };
 

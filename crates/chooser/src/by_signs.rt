@@ -1,148 +1,130 @@
 // The axis along which the signs of a patch change most.
-ghost use Rattle.std.specs.Prelude.{◌≡◌, ◌+◌, ◌^◌, ◌<◌, ◌≤◌, length, ◌==◌};
+ghost use Rattle.std.specs.Prelude.{◌≡◌, ◌-◌, ◌≤◌, ◌==◌, false, length, MatchOption};
 ghost use Rattle.algebra.specs.Layout.{numbers};
-ghost use Rattle.chooser.specs.BySigns.{is_negative, differ as different, tally, negative_at, differ_at, most_changed, half_first, by_signs};
-ghost use Rattle.chooser.specs.Rows.{rows_along, Lie, changes_at, negative_in};
+ghost use Rattle.chooser.specs.BySigns.{tally, negative_at, differ_at, changes, most_changed, half_first, choice_by_signs, by_signs};
 ghost use Rattle.chooser.specs.Picking.{by_signs_picks};
+ghost use Rattle.chooser.specs.Rows.{Lie, changes_at, negative_in};
+ghost use Rattle.patch.specs.Shapes.{shape_of};
 
 use crate::chooser::Chooser;
 use crate::question::Question;
-use crate::rows::Rows;
 use algebra::{Half, Sign};
-use patch::count;
+use patch::{Shape, count};
+use std::cmp::Reverse;
 
-fn is_negative(sign: Sign) -> bool
-    ensures { result ≡ is_negative sign }
+fn negatives_in(row: &[Sign]) -> usize
+    ensures { result ≡ tally (negative_at row.now) 0 (length row.now) }
 {
-    matches!(sign, Sign::Negative)
+    row.iter().filter(|sign| **sign == Sign::Negative).count()
 }
 
-// Whether two signs differ: positive, zero and negative are three.
-fn differ(a: Sign, b: Sign) -> bool
-    ensures { result ≡ different a b }
+// How many neighbours in a block differ: all its numbers but those of the last row have one, a stride further on.
+fn changes_in(block: &[Sign], stride: usize) -> usize
+    requires { stride ≤ length block.now }
+    ensures { result ≡ tally (differ_at block.now stride) 0 (length block.now - stride) }
 {
-    a as u8 != b as u8
+    block
+        .iter()
+        .zip(&block[stride..])
+        .filter(|(a, b)| a != b)
+        .count()
 }
 
-// How many of so many signs from `start` on are negative.
-fn negatives_from(signs: &[Sign], start: usize, size: usize) -> usize
-    requires { start + size ≤ length signs.now }
-    ensures { result ≡ tally (negative_at signs.now) start size }
-{
-    let mut found = 0;
-    for k in 0..size {
-        if is_negative(signs[start + k]) {
-            found += 1;
+// The signs of a patch, as they lie along an axis.
+#[derive(Clone, Copy)]
+struct Rows<'s> {
+    shape: Shape,
+    signs: &'s [Sign],
+    ghost lie: { Lie shape (length signs.now) },
+}
+
+impl Rows<'_> {
+    // How many neighbour pairs differ in sign.
+    fn changes(&self) -> usize
+        ensures { result ≡ tally (changes_at self.now.shape self.now.signs.now) 0 (length self.now.signs.now) }
+    {
+        let rows = usize::from(self.shape.degree) + 1;
+        self.signs
+            .chunks_exact(rows * self.shape.stride)
+            .map(|block| changes_in(block, self.shape.stride))
+            .sum()
+    }
+
+    // How many negative numbers have an index along the axis: those of one row in each block.
+    fn negatives(&self, index: u8) -> usize
+        requires { index ≤ self.now.shape.degree }
+        ensures { result ≡ tally (negative_in self.now.shape index self.now.signs.now) 0 (length self.now.signs.now) }
+    {
+        let rows = usize::from(self.shape.degree) + 1;
+        self.signs
+            .chunks_exact(self.shape.stride)
+            .skip(usize::from(index))
+            .step_by(rows)
+            .map(negatives_in)
+            .sum()
+    }
+}
+
+// The signs of a patch, with its degrees.
+#[derive(Clone, Copy)]
+struct Patch<'d, 's> {
+    degrees: &'d [u8],
+    signs: &'s [Sign],
+    ghost whole: { numbers degrees.now ≡ length signs.now },
+}
+
+impl<'d, 's> Patch<'d, 's> {
+    // None if the signs are not as many as such a patch has numbers.
+    fn of(degrees: &'d [u8], signs: &'s [Sign]) -> Option<Patch<'d, 's>>
+        ensures { MatchOption result ((numbers degrees.now == length signs.now) ≡ false) (λ p. (p.degrees.now ≡ degrees.now) × (p.signs.now ≡ signs.now)) }
+    {
+        if count(degrees) == Some(signs.len()) {
+            Some(Patch { degrees, signs })
+        } else {
+            None
         }
     }
-    found
-}
 
-// How many of so many signs from `start` on differ from the sign that stands a stride further on.
-fn changes_from(signs: &[Sign], start: usize, size: usize, stride: usize) -> usize
-    requires { start + (size + stride) ≤ length signs.now }
-    ensures { result ≡ tally (differ_at signs.now stride) start size }
-{
-    let mut found = 0;
-    for k in 0..size {
-        if differ(signs[start + k], signs[start + k + stride]) {
-            found += 1;
+    // None if there is no such axis.
+    fn along(&self, axis: usize) -> Option<Rows<'s>>
+        ensures { MatchOption result (length self.now.degrees.now ≤ axis) (λ r. (r.shape ≡ shape_of self.now.degrees.now axis) × (r.signs.now ≡ self.now.signs.now)) }
+    {
+        let shape = Shape::along(self.degrees, axis)?;
+        Some(Rows {
+            shape,
+            signs: self.signs,
+        })
+    }
+
+    fn changes(&self, axis: usize) -> usize
+        ensures { result ≡ changes self.now.degrees.now self.now.signs.now axis }
+    {
+        self.along(axis).map_or(0, |rows| rows.changes())
+    }
+
+    // The axis with most changes, the lowest on a tie, or none if there is no axis.
+    fn most_changed(&self) -> Option<usize>
+        ensures { MatchOption result (length self.now.degrees.now ≡ 0) (λ j. j ≡ most_changed self.now.degrees.now self.now.signs.now) }
+    {
+        (0..self.degrees.len()).min_by_key(|axis| Reverse(self.changes(*axis)))
+    }
+
+    // The upper half, if more negative numbers have the highest index along the axis than have index 0.
+    fn half(&self, axis: usize) -> Half
+        ensures { result ≡ half_first self.now.degrees.now self.now.signs.now axis }
+    {
+        match self.along(axis) {
+            Some(rows) if rows.negatives(0) < rows.negatives(rows.shape.degree) => Half::Upper,
+            _ => Half::Lower,
         }
     }
-    found
-}
 
-// How many numbers a patch of these degrees has, where a machine word holds that.
-fn size(degrees: &[u8]) -> usize
-    requires { numbers degrees.now < 2 ^ 64 }
-    ensures { result ≡ numbers degrees.now }
-{
-    match count(degrees) {
-        Some(size) => size,
-        None => unreachable(),
-    }
-}
-
-// Whether these are the signs of a patch of these degrees: as many as it has numbers.
-fn is_patch(degrees: &[u8], signs: &[Sign]) -> bool
-    ensures { result ≡ (numbers degrees.now == length signs.now) }
-{
-    match count(degrees) {
-        Some(size) => size == signs.len(),
-        None => false,
-    }
-}
-
-// How a patch lies along an axis.
-fn rows(degrees: &[u8], axis: usize) -> Rows
-    requires axis { axis < length degrees.now }
-    requires small { numbers degrees.now < 2 ^ 64 }
-    ensures { result ≡ rows_along degrees.now axis }
-{
-    Rows {
-        blocks: size(&degrees[0..axis]),
-        degree: degrees[axis],
-        stride: size(&degrees[axis + 1..degrees.len()]),
-    }
-}
-
-// How many neighbour pairs along an axis differ in sign. In each block all rows but the last have a next one, a stride further on.
-fn changes(rows: Rows, signs: &[Sign]) -> usize
-    requires { Lie rows (length signs.now) }
-    ensures { result ≡ tally (changes_at rows signs.now) 0 (length signs.now) }
-{
-    let n = rows.degree as usize;
-    let mut found = 0;
-    for b in 0..rows.blocks {
-        let start = b * ((n + 1) * rows.stride);
-        found += changes_from(signs, start, n * rows.stride, rows.stride);
-    }
-    found
-}
-
-// How many negative numbers have an index along an axis: those of one row in each block.
-fn negatives(rows: Rows, index: u8, signs: &[Sign]) -> usize
-    requires lie { Lie rows (length signs.now) }
-    requires index { index ≤ rows.degree }
-    ensures { result ≡ tally (negative_in rows index signs.now) 0 (length signs.now) }
-{
-    let n = rows.degree as usize;
-    let mut found = 0;
-    for b in 0..rows.blocks {
-        let start = b * ((n + 1) * rows.stride) + index as usize * rows.stride;
-        found += negatives_from(signs, start, rows.stride);
-    }
-    found
-}
-
-// The axis with most changes, the lowest on a tie.
-fn axis_of(degrees: &[u8], signs: &[Sign]) -> usize
-    requires { numbers degrees.now ≡ length signs.now }
-    ensures { result ≡ most_changed degrees.now signs.now }
-{
-    let mut best = 0;
-    let mut most = 0;
-    for axis in 0..degrees.len() {
-        let here = changes(rows(degrees, axis), signs);
-        if here > most {
-            best = axis;
-            most = here;
-        }
-    }
-    best
-}
-
-// The upper half, if more negative numbers have the highest index along the axis than have index 0.
-fn half_of(degrees: &[u8], signs: &[Sign], axis: usize) -> Half
-    requires axis { axis < length degrees.now }
-    requires signs { numbers degrees.now ≡ length signs.now }
-    ensures { result ≡ half_first degrees.now signs.now axis }
-{
-    let rows = rows(degrees, axis);
-    if negatives(rows, 0, signs) < negatives(rows, rows.degree, signs) {
-        Half::Upper
-    } else {
-        Half::Lower
+    // None if there is no axis.
+    fn choice(&self) -> Option<(usize, Half)>
+        ensures { MatchOption result (length self.now.degrees.now ≡ 0) (λ a. a ≡ choice_by_signs self.now.degrees.now self.now.signs.now) }
+    {
+        let axis = self.most_changed()?;
+        Some((axis, self.half(axis)))
     }
 }
 
@@ -156,12 +138,8 @@ impl Chooser for BySigns {
     ghost picks = { λ c. by_signs_picks };
 
     fn choose(&mut self, question: Question) -> (usize, Half) {
-        let degrees = question.degrees;
-        let signs = question.signs;
-        if degrees.is_empty() || !is_patch(degrees, signs) {
-            return (0, Half::Lower);
-        }
-        let axis = axis_of(degrees, signs);
-        (axis, half_of(degrees, signs, axis))
+        Patch::of(question.degrees, question.signs)
+            .and_then(|patch| patch.choice())
+            .unwrap_or((0, Half::Lower))
     }
 }

@@ -1,7 +1,7 @@
 // A layer that keeps the halvings of the axes close to each other.
-ghost use Rattle.std.specs.Prelude.{◌≡◌, true, false, MatchResult, slice_index};
+ghost use Rattle.std.specs.Prelude.{◌≡◌, true, false, MatchResult};
 ghost use Rattle.chooser.specs.Asked.{asked};
-ghost use Rattle.chooser.specs.Evening.{is_gap, gap_refusal_number, least_halved, evening as evened_by};
+ghost use Rattle.chooser.specs.Evening.{is_gap, gap_refusal_number, halved, least_halved, evening};
 ghost use Rattle.chooser.specs.Picking.{evening_picks};
 
 use crate::chooser::Chooser;
@@ -23,11 +23,11 @@ pub struct BadGap<C> {
     pub below: C,
 }
 
-impl<C> BadGap<C> {
-    // The number of this refusal.
-    pub fn number(&self) -> u8
-        ensures { result ≡ gap_refusal_number }
-    {
+// The number of this refusal. The refusal itself stays, with its chooser.
+impl<C> From<&BadGap<C>> for u8 {
+    ghost from_gives = { λ b n. n ≡ gap_refusal_number };
+
+    fn from(_bad: &BadGap<C>) -> u8 {
         18
     }
 }
@@ -37,7 +37,7 @@ impl<C> Evening<C> {
     pub fn over(below: C, gap: u8) -> Result<Evening<C>, BadGap<C>>
         ensures { MatchResult result (λ e. (is_gap gap ≡ true) × (e.below ≡ below) × (e.gap ≡ gap)) (λ b. (is_gap gap ≡ false) × (b.below ≡ below)) }
     {
-        if 1 <= gap && gap <= 24 {
+        if (1..=24).contains(&gap) {
             Ok(Evening { below, gap })
         } else {
             Err(BadGap { below })
@@ -45,40 +45,34 @@ impl<C> Evening<C> {
     }
 }
 
-// How often the box was halved along an axis. An axis of which nothing is said was not halved.
-fn halved(halvings: &[u8], axis: usize) -> u8
-    ensures { result ≡ slice_index halvings.now axis }
-{
-    if axis < halvings.len() {
-        halvings[axis]
-    } else {
-        0
+impl Question<'_, '_, '_> {
+    // How often the box was halved along an axis. An axis of which nothing is said was not halved.
+    fn halved(&self, axis: usize) -> u8
+        ensures { result ≡ halved (asked self.now) axis }
+    {
+        self.halvings.get(axis).copied().unwrap_or(0)
     }
-}
 
-// The axis that was halved least, the lowest on a tie.
-fn least(question: Question) -> usize
-    ensures { result ≡ least_halved (asked question.entry) }
-{
-    let mut best = 0;
-    for axis in 0..question.degrees.len() {
-        if halved(question.halvings, axis) < halved(question.halvings, best) {
-            best = axis;
-        }
+    // The axis that was halved least, the lowest on a tie.
+    fn least_halved(&self) -> usize
+        ensures { result ≡ least_halved (asked self.now) }
+    {
+        (0..self.degrees.len())
+            .min_by_key(|axis| self.halved(*axis))
+            .unwrap_or(0)
     }
-    best
 }
 
 impl<C: Chooser> Chooser for Evening<C> {
-    ghost meaning = { λ e. evened_by e.gap (C.Chooser.meaning e.below) };
+    ghost meaning = { λ e. evening e.gap (C.Chooser.meaning e.below) };
 
     ghost picks = { λ c. evening_picks c.gap (C.Chooser.meaning c.below) (C.Chooser.picks c.below) };
 
     fn choose(&mut self, question: Question) -> (usize, Half) {
         let (axis, half) = self.below.choose(question);
-        let low = least(question);
-        let limit = halved(question.halvings, low) as u16 + self.gap as u16;
-        if halved(question.halvings, axis) as u16 >= limit {
+        let low = question.least_halved();
+        let limit = u16::from(question.halved(low)) + u16::from(self.gap);
+        if u16::from(question.halved(axis)) >= limit {
             (low, Half::Lower)
         } else {
             (axis, half)

@@ -17,7 +17,6 @@ mod chooser;
 mod evening;
 mod laws;
 mod question;
-mod rows;
 #[cfg(test)]
 mod tests;
 

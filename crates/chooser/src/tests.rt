@@ -8,7 +8,6 @@ use crate::chooser::Chooser;
 use crate::evening::Evening;
 use crate::question::Question;
 use algebra::{Half, Sign};
-use std::test::Fail;
 
 const N: Sign = Sign::Negative;
 
@@ -47,102 +46,109 @@ fn twice<C: Chooser>(
     (first, chooser.choose(question))
 }
 
-fn letters(answer: (usize, Half)) -> (usize, char) {
-    match answer.1 {
-        Half::Lower => (answer.0, 'l'),
-        Half::Upper => (answer.0, 'u'),
-    }
-}
-
-fn alternated(degrees: &[u8], depth: u32) -> (usize, char) {
-    letters(Alternating.choose(Question {
+fn alternated(degrees: &[u8], depth: u32) -> (usize, Half) {
+    Alternating.choose(Question {
         degrees,
         halvings: &[],
         depth,
         signs: &[],
-    }))
+    })
 }
 
-fn by_signs(degrees: &[u8], signs: &[Sign]) -> (usize, char) {
-    letters(BySigns.choose(Question {
+fn by_signs(degrees: &[u8], signs: &[Sign]) -> (usize, Half) {
+    BySigns.choose(Question {
         degrees,
         halvings: &[],
         depth: 0,
         signs,
-    }))
+    })
 }
 
 // The layer over the axes in turn, at depth 0, where axis 0 is the turn's.
-fn evened(gap: u8, degrees: &[u8], halvings: &[u8]) -> Option<(usize, char)> {
-    match Evening::over(Alternating, gap) {
-        Ok(mut layer) => Some(letters(layer.choose(Question {
-            degrees,
-            halvings,
-            depth: 0,
-            signs: &[],
-        }))),
-        Err(_) => None,
-    }
+fn evened(gap: u8, degrees: &[u8], halvings: &[u8]) -> Option<(usize, Half)> {
+    let mut layer = Evening::over(Alternating, gap).ok()?;
+    Some(layer.choose(Question {
+        degrees,
+        halvings,
+        depth: 0,
+        signs: &[],
+    }))
 }
 
 #[test]
 fn alternates(rt: HostRuntime) {
-    assert_eq!(rt; alternated(&[1, 2, 3, 4], 0), (0, 'l'));
-    assert_eq!(rt; alternated(&[1, 2, 3, 4], 6), (2, 'l'));
-    assert_eq!(rt; alternated(&[1, 2, 3, 4], u32::MAX), (3, 'l'));
-    // one axis, and none
-    assert_eq!(rt; alternated(&[8], 7), (0, 'l'));
-    assert_eq!(rt; alternated(&[], 7), (0, 'l'));
+    let cases: [(&[u8], u32, usize); 5] = [
+        (&[1, 2, 3, 4], 0, 0),
+        (&[1, 2, 3, 4], 6, 2),
+        (&[1, 2, 3, 4], u32::MAX, 3),
+        // one axis, and none
+        (&[8], 7, 0),
+        (&[], 7, 0),
+    ];
+    for (degrees, depth, axis) in cases {
+        assert!(rt;
+            alternated(degrees, depth) == (axis, Half::Lower),
+            "axis {axis}"
+        );
+    }
 }
 
 #[test]
 fn reads_signs(rt: HostRuntime) {
-    // one axis: the negative numbers lie above, below, at both ends
-    assert_eq!(rt; by_signs(&[2], &[P, Z, N]), (0, 'u'));
-    assert_eq!(rt; by_signs(&[2], &[N, N, P]), (0, 'l'));
-    assert_eq!(rt; by_signs(&[2], &[N, P, N]), (0, 'l'));
-    // as many changes along both axes; none at all; zero is no positive sign
-    assert_eq!(rt; by_signs(&[1, 1], &[P, N, N, N]), (0, 'u'));
-    assert_eq!(rt; by_signs(&[1, 1], &[Z, Z, Z, Z]), (0, 'l'));
-    assert_eq!(rt; by_signs(&[1, 1], &[P, Z, P, Z]), (1, 'l'));
-    // four axes, the third of degree 2
-    assert_eq!(rt;
-        by_signs(
+    let cases: [(&[u8], &[Sign], usize, Half); 9] = [
+        // one axis: the negative numbers lie above, below, at both ends
+        (&[2], &[P, Z, N], 0, Half::Upper),
+        (&[2], &[N, N, P], 0, Half::Lower),
+        (&[2], &[N, P, N], 0, Half::Lower),
+        // as many changes along both axes; none at all; zero is no positive sign
+        (&[1, 1], &[P, N, N, N], 0, Half::Upper),
+        (&[1, 1], &[Z, Z, Z, Z], 0, Half::Lower),
+        (&[1, 1], &[P, Z, P, Z], 1, Half::Lower),
+        // four axes, the third of degree 2
+        (
             &[1, 1, 2, 1],
             &[
                 P, P, P, P, N, N, P, P, P, P, N, N, P, P, P, P, N, N, P, P, P, P, N, Z,
             ],
+            2,
+            Half::Upper,
         ),
-        (2, 'u')
-    );
-    // no axes, and a sign too few
-    assert_eq!(rt; by_signs(&[], &[N]), (0, 'l'));
-    assert_eq!(rt; by_signs(&[1, 1], &[P, Z, N]), (0, 'l'));
+        // no axes, and a sign too few
+        (&[], &[N], 0, Half::Lower),
+        (&[1, 1], &[P, Z, N], 0, Half::Lower),
+    ];
+    for (degrees, signs, axis, half) in cases {
+        assert!(rt; by_signs(degrees, signs) == (axis, half), "axis {axis}");
+    }
 }
 
 #[test]
 fn evens(rt: HostRuntime) {
-    assert_eq!(rt; evened(2, &[1, 1], &[3, 1]), Some((1, 'l')));
-    assert_eq!(rt; evened(2, &[1, 1], &[2, 1]), Some((0, 'l')));
-    assert_eq!(rt; evened(1, &[1, 1], &[1, 0]), Some((1, 'l')));
-    assert_eq!(rt; evened(24, &[1, 1], &[24, 0]), Some((1, 'l')));
-    assert_eq!(rt; evened(24, &[1, 1], &[23, 0]), Some((0, 'l')));
-    // one axis; the lowest of two least halved; nothing said of axis 1
-    assert_eq!(rt; evened(1, &[1], &[9]), Some((0, 'l')));
-    assert_eq!(rt; evened(2, &[1, 1, 1, 1], &[5, 3, 2, 2]), Some((2, 'l')));
-    assert_eq!(rt; evened(2, &[1, 1], &[2]), Some((1, 'l')));
+    let cases: [(u8, &[u8], &[u8], usize); 8] = [
+        (2, &[1, 1], &[3, 1], 1),
+        (2, &[1, 1], &[2, 1], 0),
+        (1, &[1, 1], &[1, 0], 1),
+        (24, &[1, 1], &[24, 0], 1),
+        (24, &[1, 1], &[23, 0], 0),
+        // one axis; the lowest of two least halved; nothing said of axis 1
+        (1, &[1], &[9], 0),
+        (2, &[1, 1, 1, 1], &[5, 3, 2, 2], 2),
+        (2, &[1, 1], &[2], 1),
+    ];
+    for (gap, degrees, halvings, axis) in cases {
+        assert!(rt;
+            evened(gap, degrees, halvings) == Some((axis, Half::Lower)),
+            "gap {gap}"
+        );
+    }
 }
 
 #[test]
-fn refuses_gaps(rt: HostRuntime) -> Result<(), Fail> {
+fn refuses_gaps(rt: HostRuntime) {
     for gap in [0, 25, 255] {
-        match Evening::over(Alternating, gap) {
-            Ok(_) => return Err(Fail::new("a layer with that gap")),
-            Err(bad) => assert_eq!(rt; bad.number(), 18),
-        }
+        assert!(rt; Evening::over(Alternating, gap).is_err_and(|bad| u8::from(&bad) == 18));
     }
     assert!(rt; evened(1, &[1], &[0]).is_some() && evened(24, &[1], &[0]).is_some());
-    Ok(())
 }
 
 #[test]
@@ -157,15 +163,11 @@ fn keeps_its_meaning(rt: HostRuntime) {
         below: BySigns,
         count: 0,
     };
-    let (first, second) = twice(
-        &mut chooser,
-        question,
-        Question {
-            depth: 2,
-            ..question
-        },
-    );
-    assert_eq!(rt; letters(first), (1, 'u'));
-    assert_eq!(rt; letters(second), (1, 'u'));
+    let other = Question {
+        depth: 2,
+        ..question
+    };
+    let (first, second) = twice(&mut chooser, question, other);
+    assert!(rt; first == (1, Half::Upper) && second == (1, Half::Upper));
     assert_eq!(rt; chooser.count, 3);
 }

@@ -1,6 +1,0 @@
-use Rattle.std.proofs.Common.{◌≡◌}
-use Rattle.chooser.specs.BySigns.{tally, differ_at}
-use Rattle.chooser.proofs.by_signs.changes_from.Given as goal
-
-abbrev pub invariant-loop-k : goal.invariant-loop-k
-invariant-loop-k l = l.found ≡ tally (differ_at l.signs l.stride) l.start l.k
