@@ -1,6 +1,7 @@
 -- What the page of a ticket says.
 use Rattle.std.specs.Prelude.{ℕ, ◌+◌, Bool, true, false, cond, not, ◌&&◌, List, [], ◌∷◌, ◌++◌, length, ℤ, pos, vec_items, codes, decimal, ◌==◌, int_lt, unsigned_abs}
 use Rattle.std.specs.Fmt.{signed_decimal}
+use Rattle.std.specs.List.{list_all}
 use Rattle.algebra.specs.Pair.{pair}
 use Rattle.number.specs.Text.{pair_text}
 use Rattle.number.specs.declared.kinds.Drifting.{Drifting}
@@ -49,8 +50,7 @@ powers_text leads j [] = []
 powers_text leads j (e ∷ es) = factor_text leads j e ++ powers_text (leads && e == 0) (j + 1) es
 
 abbrev pub constant : List ℕ → Bool
-constant [] = true
-constant (e ∷ es) = e == 0 && constant es
+constant es = list_all (λ e. e == 0) es
 
 -- a size before its powers; 1 is left out where a power stands
 abbrev pub product_text : ℕ → List ℕ → List ℕ

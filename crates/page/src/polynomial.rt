@@ -16,7 +16,7 @@ impl Display for Drift {
     fn fmt<W: Write>(&self, f: &mut Formatter<W>) -> Result {
         let drift = self.0;
         if drift == 0 {
-            f.write_str("")
+            Ok(())
         } else {
             write!(f, " (drift {drift})")
         }
@@ -34,7 +34,7 @@ fn sign(leads: bool, negative: bool) -> &'static str
     }
 }
 
-// A term as it stands in a sum, which it leads or not.
+// A term as it stands in a sum, which it leads or not. The flag is no plainer as a type: it only chooses among the four signs above.
 #[derive(Clone, Copy)]
 pub struct Summand {
     pub leads: bool,

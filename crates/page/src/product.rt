@@ -25,7 +25,7 @@ impl Display for Power {
     }
 }
 
-// A power as it stands in a product.
+// A power as it stands in a product, which it leads or not. The flag is no plainer as a type: powers that are left out leave it as it was.
 #[derive(Clone, Copy)]
 struct Factor {
     leads: bool,
@@ -38,7 +38,7 @@ impl Display for Factor {
     fn fmt<W: Write>(&self, f: &mut Formatter<W>) -> Result {
         let power = self.power;
         if power.exponent == 0 {
-            f.write_str("")
+            Ok(())
         } else if self.leads {
             write!(f, "{power}")
         } else {
@@ -73,12 +73,7 @@ impl Display for Powers {
 fn is_constant(exponents: &[u8]) -> bool
     ensures { result ≡ constant exponents.now }
 {
-    for e in exponents {
-        if *e != 0 {
-            return false;
-        }
-    }
-    true
+    exponents.iter().all(|e| *e == 0)
 }
 
 // The size of a coefficient times its powers, as `4*x0^2`; a size of 1 is left out where a power stands.
