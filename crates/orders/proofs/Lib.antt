@@ -1,4 +1,3 @@
 mod Exact
 mod ReadBack
 mod Split
-mod Spaced
