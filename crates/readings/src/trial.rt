@@ -1,9 +1,8 @@
-// How far a ticket is taken.
+// What the numbers carry that a ticket is sized for.
 ghost use Rattle.std.specs.Prelude.{◌≡◌};
 ghost use Rattle.readings.specs.Trials.{drifts_of};
 
-// What the numbers carry that a ticket is sized for.
-#[derive(Clone, Copy)]
+#[derive(Clone, Copy, PartialEq, Eq)]
 pub enum Kind {
     Plain,
     Drifting,
@@ -13,16 +12,6 @@ impl Kind {
     pub(crate) fn drifts(self) -> bool
         ensures { result ≡ drifts_of self }
     {
-        match self {
-            Kind::Plain => false,
-            Kind::Drifting => true,
-        }
+        matches!(self, Kind::Drifting)
     }
-}
-
-// A ticket is read, and then, where a kind is named, sized.
-#[derive(Clone, Copy)]
-pub enum Trial {
-    ReadOnly,
-    SizedFor(Kind),
 }
