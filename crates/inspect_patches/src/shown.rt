@@ -17,16 +17,14 @@ pub(crate) struct Shown {
 
 impl Shown {
     pub(crate) fn of(heap: Global, ticket: SizedTicket) -> io::Result<Shown> {
-        let mut degrees = Vec::new(heap);
-        for axis in ticket.ticket.axes.as_slice() {
-            degrees.push(axis.degree)?;
-        }
-        let mut work = Vec::new(heap);
-        if let Some(zero) = Drifting::make(0, 0) {
-            for _ in 0..2 * ticket.sizes().patch {
-                work.push(zero)?;
-            }
-        }
+        let degrees = ticket
+            .ticket
+            .axes
+            .iter()
+            .map(|axis| axis.degree)
+            .collect(heap)?;
+        let zero = Drifting::make(0, 0).unwrap();
+        let work = vec![in heap; zero; 2 * ticket.sizes().patch]?;
         Ok(Shown {
             ticket,
             degrees,
