@@ -21,3 +21,4 @@ pub mod Bounds
 pub mod Monomials
 pub mod Summing
 pub mod Examples
+pub mod Beginning

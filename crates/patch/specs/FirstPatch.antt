@@ -1,5 +1,5 @@
 -- The patch that a ticket's polynomial has on the whole box, and the inequality turned so that it asks for more than 0.
-use Rattle.std.specs.Prelude.{◌≡◌, ℕ, ◌<◌, ◌≤◌, Bool, true, ◌&&◌, List, [], ◌∷◌, map, length, take, drop, ℤ, pos, ◌*ℤ◌, neg_ℤ, nat_le, slice_index}
+use Rattle.std.specs.Prelude.{◌≡◌, ℕ, ◌<◌, ◌≤◌, Bool, true, cond, ◌&&◌, List, [], ◌∷◌, map, length, take, drop, ℤ, pos, ◌*ℤ◌, neg_ℤ, Result, Ok, Err, nat_le, slice_index}
 use Rattle.std.specs.List.{range_with_len}
 use Rattle.algebra.specs.Bernstein.{of_power}
 use Rattle.algebra.specs.Layout.{numbers, index_of}
@@ -14,6 +14,8 @@ use Rattle.patch.specs.Judging.{every}
 use Rattle.patch.specs.Point.{sum_over}
 use Rattle.ticket.specs.Sizes.{common, degrees_of, rest, value_size, drift_size}
 use Rattle.patch.specs.declared.parts.Parts.{Parts}
+use Rattle.patch.specs.declared.refusal.PatchRefusal.{PatchRefusal}
+use Rattle.patch.specs.declared.refusal.PatchRefusal.TheVariants.{Drift, Room}
 
 -- ---- < and ≤ are asked of the opposite polynomial, as > and ≥
 abbrev pub negated : Term → Term
@@ -79,6 +81,10 @@ all_carried drifts terms = every (carries drifts) (map (λ t. t.drift) terms)
 -- the first patch can be written: the kind carries its drifts, and there is room for it
 abbrev pub may_begin : Bool → Content → ℕ → Bool
 may_begin drifts c room = all_carried drifts c.terms && nat_le (numbers (degrees_of c.axes)) room
+
+-- what writing it answers: that it is there, or why it is not, the drifts before the room
+abbrev pub beginning : Bool → Content → ℕ → Result Unit PatchRefusal
+beginning drifts c room = cond (may_begin drifts c room) (Ok tt) (Err (cond (all_carried drifts c.terms) Room Drift))
 
 -- the first patch stands at the start of a workspace, and what is behind it is the very same
 pub record Begun {K : Type 0} (means : K → Pair) (c : Content) (old new : List K) : Type 0 where

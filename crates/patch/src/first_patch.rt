@@ -1,5 +1,5 @@
 // The first patch of a ticket, written at the start of a workspace.
-ghost use Rattle.std.specs.Prelude.{◌≡◌, ◌<◌, ◌≤◌, true, false, [], ◌∷◌, length, is_some, unsigned_abs};
+ghost use Rattle.std.specs.Prelude.{◌≡◌, ◌<◌, ◌≤◌, true, [], ◌∷◌, length, is_some, unsigned_abs, IfOk, IfErr};
 ghost use Rattle.algebra.specs.Layout.{numbers, index_of};
 ghost use Rattle.algebra.specs.Pair.{multiple};
 ghost use Rattle.number.specs.Limits.{word, carries, made as made_pair};
@@ -7,12 +7,13 @@ ghost use Rattle.ticket.specs.Law.{content};
 ghost use Rattle.ticket.specs.Sizes.{degrees_of};
 ghost use Rattle.patch.specs.Conversion.{Monomial};
 ghost use Rattle.patch.specs.Point.{pair_of, sum_over};
-ghost use Rattle.patch.specs.FirstPatch.{turned as turned_content, of_powers, number_at, pair_of_parts, turned_pair, Summable, all_carried as carries_all, may_begin, Begun};
+ghost use Rattle.patch.specs.FirstPatch.{turned as turned_content, of_powers, number_at, pair_of_parts, turned_pair, Summable, all_carried as carries_all, beginning, Begun};
 ghost use Rattle.patch.specs.Meaning.{FirstPatchRepresents, WholeCovers};
 ghost use Rattle.patch.specs.Sizes.{FirstPatchIsBounded};
 
 use crate::conversion::converted;
 use crate::parts::Parts;
+use crate::refusal::PatchRefusal;
 use number::Number;
 use ticket::{Axis, Relation, SizedTicket, Term};
 
@@ -129,26 +130,29 @@ fn all_carried(drifts: bool, terms: &[Term]) -> bool
     true
 }
 
-// Writes the first patch of a ticket at the start of a workspace, and leaves what is behind it. It answers false, and leaves the
-// workspace as it is, if the kind of number does not carry the drifts of the ticket, or there is no room. The patch represents the
-// polynomial on the whole box, which has every point of the ticket's, and its numbers are within the ticket's sizes.
-pub fn write_first_patch<K: Number>(ticket: &SizedTicket, work: &mut [K]) -> bool
-    ensures answer { result ≡ may_begin K.drifts (content ticket.now.ticket) (length work.old) }
-    ensures begun { result ≡ true → Begun K.means (content ticket.now.ticket) work.old work.new }
-    ensures refused { result ≡ false → work.new ≡ work.old }
+// Writes the first patch of a ticket at the start of a workspace. A workspace is left as it is if the kind of number does not carry
+// the drifts of the ticket, or there is no room. The patch represents the polynomial on the whole box, which has every point of the
+// ticket's, and its numbers are within the ticket's sizes.
+pub fn write_first_patch<K: Number>(
+    ticket: &SizedTicket,
+    work: &mut [K],
+) -> Result<(), PatchRefusal>
+    ensures answer { result ≡ beginning K.drifts (content ticket.now.ticket) (length work.old) }
+    ensures begun { IfOk result (λ _. Begun K.means (content ticket.now.ticket) work.old work.new) }
+    ensures refused { IfErr result (λ _. work.new ≡ work.old) }
     ensures represents { FirstPatchRepresents }
     ensures covers { WholeCovers }
     ensures bounded { FirstPatchIsBounded }
 {
     let size = ticket.sizes().patch;
     if !all_carried(carries_drift::<K>(), ticket.ticket.terms.as_slice()) {
-        return false;
+        return Err(PatchRefusal::Drift);
     }
     if work.len() < size {
-        return false;
+        return Err(PatchRefusal::Room);
     }
     for place in 0..size {
         work[place] = made(number_at(ticket, size, place));
     }
-    true
+    Ok(())
 }

@@ -1,11 +1,12 @@
 // Halving a patch inside a workspace.
-ghost use Rattle.std.specs.Prelude.{◌≡◌, ℕ, ◌+◌, ◌*◌, ◌<◌, ◌≤◌, true, false, map, length, nat_le};
+ghost use Rattle.std.specs.Prelude.{◌≡◌, ℕ, ◌+◌, ◌*◌, ◌<◌, ◌≤◌, true, map, length, is_ok, OnOk, OnErr, nat_le};
 ghost use Rattle.number.specs.Limits.{may_grow};
 ghost use Rattle.patch.specs.Sweeps.{pair_at};
-ghost use Rattle.patch.specs.Halving.{may_halve, Halved, Split};
+ghost use Rattle.patch.specs.Halving.{may_halve, halving, Halved, Split};
 ghost use Rattle.patch.specs.Meaning.{HalfRepresents, HalvesCover};
 
 use crate::judging::all_grow;
+use crate::refusal::PatchRefusal;
 use crate::shape::Shape;
 use crate::sweep::halve_patch;
 use algebra::Half;
@@ -34,31 +35,32 @@ fn split<K: Number>(work: &mut [K], start: usize, shape: Shape, first: Half)
     halve_patch(work, end, shape.blocks, n, shape.stride, first);
 }
 
-// Halves the patch at `start` along an axis: the half named `first` goes behind it and the other over it. It answers false, and leaves
-// the workspace as it is, if there is no such axis, no room for both halves, or a number that may not grow by the degree. If the patch
-// represents a polynomial on a box, so do the halves on those of the box, and these lose no point of it.
+// Halves the patch at `start` along an axis: the half named `first` goes behind it and the other over it. It is refused, and leaves
+// the workspace as it is, if there is no such axis or the patch is larger than a machine word tells, if there is no room for both halves,
+// or if a number may not grow by the degree: the first of these is the answer. If the patch represents a polynomial on a box, so do the
+// halves on those of the box, and these lose no point of it.
+#[tactic(auto, using(crate::proofs::Box::halves_cover))]
 pub fn halve<K: Number>(
     work: &mut [K],
     start: usize,
     degrees: &[u8],
     axis: usize,
     first: Half,
-) -> bool
-    ensures answer { result ≡ may_halve K.limit degrees.now axis start (map K.means work.old) }
-    ensures halved { result ≡ true → Halved first degrees.now axis start (map K.means work.old) (map K.means work.new) }
-    ensures refused { result ≡ false → work.new ≡ work.old }
+) -> Result<(), PatchRefusal>
+    ensures answer { result ≡ halving K.limit degrees.now axis start (map K.means work.old) }
+    ensures granted { is_ok result ≡ may_halve K.limit degrees.now axis start (map K.means work.old) }
+    ensures halved { OnOk result (Halved first degrees.now axis start (map K.means work.old) (map K.means work.new)) }
+    ensures refused { OnErr result (work.new ≡ work.old) }
     ensures represents { HalfRepresents }
     ensures covers { HalvesCover }
 {
-    let Some(shape) = Shape::along(degrees, axis) else {
-        return false;
-    };
+    let shape = Shape::along(degrees, axis).ok_or(PatchRefusal::Axis)?;
     if !has_room(work.len(), start, shape.size) {
-        return false;
+        return Err(PatchRefusal::Room);
     }
-    if !all_grow(&work[start..start + shape.size], shape.degree as u32) {
-        return false;
+    if !all_grow(&work[start..start + shape.size], u32::from(shape.degree)) {
+        return Err(PatchRefusal::Growth);
     }
     split(work, start, shape, first);
-    true
+    Ok(())
 }

@@ -1,9 +1,10 @@
 // What the numbers of a patch say of the relation.
-ghost use Rattle.std.specs.Prelude.{◌≡◌, true, false, map, length, nat_le};
+ghost use Rattle.std.specs.Prelude.{◌≡◌, map, length, is_ok};
 ghost use Rattle.patch.specs.Judging.{satisfies as satisfied, all_satisfy, all_grow, signs as signs_of};
-ghost use Rattle.patch.specs.Writing.{written};
+ghost use Rattle.patch.specs.Writing.{written, writing};
 ghost use Rattle.patch.specs.Meaning.{AllSatisfiedIsTrueInside};
 
+use crate::refusal::PatchRefusal;
 use algebra::Sign;
 use number::Number;
 use ticket::Relation;
@@ -46,15 +47,15 @@ pub fn all_grow<K: Number>(numbers: &[K], n: u32) -> bool
 }
 
 // Writes the signs of a patch's numbers to the start of a slice. A slice that is too short for them is left as it is.
-pub fn write_signs<K: Number>(numbers: &[K], signs: &mut [Sign]) -> bool
-    ensures room { result ≡ nat_le (length numbers.now) (length signs.old) }
-    ensures signs { signs.new ≡ written result (signs_of (map K.means numbers.now)) signs.old }
+pub fn write_signs<K: Number>(numbers: &[K], signs: &mut [Sign]) -> Result<(), PatchRefusal>
+    ensures room { result ≡ writing (length numbers.now) (length signs.old) }
+    ensures signs { signs.new ≡ written (is_ok result) (signs_of (map K.means numbers.now)) signs.old }
 {
     if signs.len() < numbers.len() {
-        return false;
+        return Err(PatchRefusal::Room);
     }
     for i in 0..numbers.len() {
         signs[i] = numbers[i].sign();
     }
-    true
+    Ok(())
 }

@@ -4,7 +4,7 @@
 pub enum PatchRefusal {
     // The kind of number does not carry a drift of the ticket.
     Drift,
-    // There is no such axis.
+    // There is no such axis, or no machine word tells how large the patch is.
     Axis,
     // The slice is too short.
     Room,

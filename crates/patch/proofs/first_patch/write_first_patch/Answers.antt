@@ -1,25 +1,24 @@
-use Rattle.std.proofs.Common.{◌≡◌, ◌<◌, ◌≤◌, true, false, ◌&&◌, leb, length, sym, ap, ◌∙◌, subst, arith, rules}
-use Rattle.std.proofs.lemmas.Bool.{lt-leb, le-leb}
+use Rattle.std.proofs.Common.{◌≡◌, ◌<◌, ◌≤◌, true, false, length, sym, ap, ◌∙◌, subst, arith, rules}
 use Rattle.algebra.specs.Layout.{numbers}
 use Rattle.ticket.specs.Law.{content}
 use Rattle.ticket.specs.Sizes.{degrees_of}
 use Rattle.patch.specs.FirstPatch.{turned, number_at, pair_of_parts, all_carried}
+use Rattle.patch.proofs.Beginning.{drift_refused, room_refused, begins}
 use Rattle.patch.proofs.Box.{whole_covers}
 use Rattle.patch.proofs.FirstPatch.{first_patch_represents}
 use Rattle.patch.proofs.Sizes.{first_patch_is_bounded}
 use Rattle.patch.proofs.Summing.{number_made}
-use Rattle.patch.proofs.Tests.{not_both}
 use Rattle.patch.proofs.Writing.{Filled, none_filled, filled_more}
 use Rattle.patch.proofs.first_patch.write_first_patch.Goals as goal
 
 pub returns-then-not-all_carried : goal.returns-then-not-all_carried
 returns-then-not-all_carried g c =
     let t = content c.args.ticket.now.ticket in
-    let carried : false ≡ all_carried g.K.Number.drifts t.terms = sym c.if-not-all_carried.true ∙ c.all_carried.ensures ∙ (λ i. all_carried (c.carries_drift.ensures i) (c.as_slice.ensures.value i)) in
+    let carried : all_carried g.K.Number.drifts t.terms ≡ false = sym (c.all_carried.ensures ∙ (λ i. all_carried (c.carries_drift.ensures i) (c.as_slice.ensures.value i))) ∙ c.if-not-all_carried.true in
     record {
-      answer = ap (λ b. b && leb (numbers (degrees_of t.axes)) (length c.args.work.now)) carried;
-      begun = not_both;
-      refused = λ _. search rules;
+      answer = drift_refused g.K.Number.drifts t (length c.args.work.now) carried;
+      begun = tt;
+      refused = search rules;
       represents = first_patch_represents;
       covers = whole_covers;
       bounded = first_patch_is_bounded;
@@ -28,14 +27,13 @@ returns-then-not-all_carried g c =
 pub returns-then-work-size : goal.returns-then-work-size
 returns-then-work-size g c =
     let t = content c.args.ticket.now.ticket in
-    let room = length c.args.work.now in
     let size = ap (λ s. s.patch) c.sizes-size.ensures in
     let short = c.if-work-size.true in
-    let carried : true ≡ all_carried g.K.Number.drifts t.terms = sym c.if-not-all_carried.false ∙ c.all_carried.ensures ∙ (λ i. all_carried (c.carries_drift.ensures i) (c.as_slice.ensures.value i)) in
+    let carried : all_carried g.K.Number.drifts t.terms ≡ true = sym (c.all_carried.ensures ∙ (λ i. all_carried (c.carries_drift.ensures i) (c.as_slice.ensures.value i))) ∙ c.if-not-all_carried.false in
     record {
-      answer = sym (lt-leb (numbers (degrees_of t.axes)) room (omega arith)) ∙ ap (λ b. b && leb (numbers (degrees_of t.axes)) room) carried;
-      begun = not_both;
-      refused = λ _. search rules;
+      answer = room_refused g.K.Number.drifts t (length c.args.work.now) carried (omega arith);
+      begun = tt;
+      refused = search rules;
       represents = first_patch_represents;
       covers = whole_covers;
       bounded = first_patch_is_bounded;
@@ -66,12 +64,12 @@ returns g c =
     let size = ap (λ s. s.patch) c.sizes-size.ensures in
     let all : c.loop-place.place ≡ numbers (degrees_of t.axes) = omega arith in
     let fits : numbers (degrees_of t.axes) ≤ length c.args.work.now = omega arith in
-    let carried : true ≡ all_carried g.K.Number.drifts t.terms = sym c.if-not-all_carried.false ∙ c.all_carried.ensures ∙ (λ i. all_carried (c.carries_drift.ensures i) (c.as_slice.ensures.value i)) in
+    let carried : all_carried g.K.Number.drifts t.terms ≡ true = sym (c.all_carried.ensures ∙ (λ i. all_carried (c.carries_drift.ensures i) (c.as_slice.ensures.value i))) ∙ c.if-not-all_carried.false in
     let filled = subst (Filled g.K.Number.means (number_at (turned t)) c.args.work.now c.loop-place.work) all c.loop-place.invariant in
     record {
-      answer = sym (le-leb (numbers (degrees_of t.axes)) (length c.args.work.now) fits) ∙ ap (λ b. b && leb (numbers (degrees_of t.axes)) (length c.args.work.now)) carried;
-      begun = λ _. record { first = filled.front; behind = filled.behind };
-      refused = λ e. not_both (sym e);
+      answer = begins g.K.Number.drifts t (length c.args.work.now) carried fits;
+      begun = record { first = filled.front; behind = filled.behind };
+      refused = tt;
       represents = first_patch_represents;
       covers = whole_covers;
       bounded = first_patch_is_bounded;
