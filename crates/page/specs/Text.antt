@@ -66,10 +66,13 @@ is_zero z = unsigned_abs z == 0
 abbrev pub drift_text : ℤ → List ℕ
 drift_text d = cond (is_zero d) [] (codes " (drift " ++ (signed_decimal d ++ codes ")"))
 
+-- a term behind its sign
+abbrev pub unsigned_text : Term → List ℕ
+unsigned_text t = product_text (unsigned_abs t.coefficient) t.exponents ++ drift_text t.drift
+
 -- a term, which leads the sum or comes later in it
 abbrev pub summand_text : Bool → Term → List ℕ
-summand_text leads t =
-    sign_text leads (int_lt t.coefficient (pos 0)) ++ (product_text (unsigned_abs t.coefficient) t.exponents ++ drift_text t.drift)
+summand_text leads t = sign_text leads (int_lt t.coefficient (pos 0)) ++ unsigned_text t
 
 -- the texts of some values one after another, where the text of each knows its place, and the first is at place n
 abbrev pub numbered : {X : Type 0} → (ℕ → X → List ℕ) → ℕ → List X → List ℕ
