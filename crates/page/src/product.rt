@@ -1,6 +1,6 @@
 // The product of one term as text.
 ghost use Rattle.std.specs.Prelude.{◌≡◌, Some};
-ghost use Rattle.page.specs.Text.{power_text, factor_text, powers_text, constant, product_text};
+ghost use Rattle.page.specs.Text.{power_text, powers_text, constant, product_text};
 
 use std::fmt::{Display, Formatter, Result, Write};
 
@@ -25,28 +25,6 @@ impl Display for Power {
     }
 }
 
-// A power as it stands in a product, which it leads or not. The flag is no plainer as a type: powers that are left out leave it as it was.
-#[derive(Clone, Copy)]
-struct Factor {
-    leads: bool,
-    power: Power,
-}
-
-impl Display for Factor {
-    ghost output = { λ x. Some (factor_text x.leads x.power.axis x.power.exponent) };
-
-    fn fmt<W: Write>(&self, f: &mut Formatter<W>) -> Result {
-        let power = self.power;
-        if power.exponent == 0 {
-            Ok(())
-        } else if self.leads {
-            write!(f, "{power}")
-        } else {
-            write!(f, "*{power}")
-        }
-    }
-}
-
 // All powers of a product; none leads it where a number stands before them.
 #[derive(Clone, Copy)]
 struct Powers {
@@ -61,10 +39,13 @@ impl Display for Powers {
         let mut leads = self.leads;
         for (axis, e) in self.exponents.iter().enumerate() {
             let exponent = *e;
+            if exponent == 0 {
+                continue;
+            }
+            let times = if leads { "" } else { "*" };
             let power = Power { axis, exponent };
-            let factor = Factor { leads, power };
-            write!(f, "{factor}")?;
-            leads &= exponent == 0;
+            write!(f, "{times}{power}")?;
+            leads = false;
         }
         Ok(())
     }
