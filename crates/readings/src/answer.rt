@@ -68,7 +68,7 @@ impl From<Fault> for Place {
 
     fn from(fault: Fault) -> Place {
         Place {
-            number: fault.refusal.number(),
+            number: u8::from(fault.refusal),
             record: fault.record,
             byte: fault.byte,
         }

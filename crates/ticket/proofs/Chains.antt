@@ -1,10 +1,9 @@
 -- A chain of checks: where it goes on, and where it stops.
-use Rattle.std.proofs.Common.{◌≡◌, ℕ, ◌+◌, ◌<◌, ◌≤◌, Bool, true, false, List, length, get_or, drop, ℤ, IsErrAnd, Some, None, Ok, Err, Option, Result, sym, refl, ap, ◌∙◌, arith, w32, SFits, to_z, of_z}
+use Rattle.std.proofs.Common.{◌≡◌, ℕ, ◌+◌, ◌<◌, ◌≤◌, Bool, true, false, List, length, get_or, drop, ℤ, IsErrAnd, Ok, Err, Result, sym, refl, ap, ◌∙◌, arith, w32, SFits, to_z, of_z}
 use Rattle.std.proofs.lemmas.List.{drop_more, drop_all}
 use Rattle.std.proofs.lemmas.Result.{err_from_is_err_and}
 use Rattle.std.proofs.lemmas.Int.{to_z-of_z}
 use Rattle.ticket.specs.Faults.{next, checked, each_checked}
-use Rattle.ticket.specs.Reading.{known}
 use Rattle.ticket.specs.declared.fault.Fault.{Fault}
 
 pub through : {X Y : Type 0} {r : Result X Fault} {x : X} (f : X → Result Y Fault) {s : Result Y Fault} → Ok x ≡ r → s ≡ f x → s ≡ next r f
@@ -20,12 +19,6 @@ exit {r} h q = let p = err_from_is_err_and r h in p.1 ∙ ap Err p.2 ∙ q
 -- a test that a call answered
 pub told : {b b' : Bool} (f : Fault) {r : Result (Unit {0}) Fault} → b ≡ b' → r ≡ checked b f → r ≡ checked b' f
 told f e h = h ∙ ap (λ t. checked t f) e
-
-pub found : {X : Type 0} {o : Option X} {x : X} (f : Fault) → Some x ≡ o → Ok x ≡ known o f
-found f e = ap (λ o. known o f) e
-
-pub missed : {X : Type 0} {o : Option X} (f : Fault) → None ≡ o → Err f ≡ known o f
-missed f e = ap (λ o. known o f) e
 
 -- two cases that cannot be equal
 pub void : ◌≡◌ {A = ℕ} 0 1 → ⊥

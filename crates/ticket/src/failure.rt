@@ -6,7 +6,7 @@ use super::fault::Fault;
 use std::alloc::AllocError;
 
 // The bytes are refused, or they are a ticket and there was no memory to hold it.
-#[derive(Clone, Copy)]
+#[derive(Clone, Copy, Debug, PartialEq, Eq)]
 pub enum Failure {
     Refused(Fault),
     OutOfMemory,

@@ -2,41 +2,31 @@
 ghost use Rattle.std.specs.Prelude.{◌≡◌};
 ghost use Rattle.ticket.specs.Faults.{refusal_number, refusal_layer, fault as faultAt, checked};
 
-// What is wrong with a ticket; each case has its number in the table of refusals.
-#[derive(Clone, Copy)]
+// What is wrong with a ticket, with its number in the table of refusals.
+#[derive(Clone, Copy, Debug, PartialEq, Eq)]
 pub enum Refusal {
-    Length,
-    Turn,
-    NotZero,
-    Degree,
-    End,
-    Exponent,
-    Relation,
-    Depth,
-    PatchSize,
-    Size,
-    Drift,
+    Length = 1,
+    Turn = 2,
+    NotZero = 3,
+    Degree = 4,
+    End = 5,
+    Exponent = 6,
+    Relation = 7,
+    Depth = 8,
+    PatchSize = 9,
+    Size = 10,
+    Drift = 11,
+}
+
+impl From<Refusal> for u8 {
+    ghost from_gives = { λ refusal number. number ≡ refusal_number refusal };
+
+    fn from(refusal: Refusal) -> u8 {
+        refusal as u8
+    }
 }
 
 impl Refusal {
-    pub fn number(self) -> u8
-        ensures { result ≡ refusal_number self }
-    {
-        match self {
-            Refusal::Length => 1,
-            Refusal::Turn => 2,
-            Refusal::NotZero => 3,
-            Refusal::Degree => 4,
-            Refusal::End => 5,
-            Refusal::Exponent => 6,
-            Refusal::Relation => 7,
-            Refusal::Depth => 8,
-            Refusal::PatchSize => 9,
-            Refusal::Size => 10,
-            Refusal::Drift => 11,
-        }
-    }
-
     fn layer(self) -> Layer
         ensures { result ≡ refusal_layer self }
     {
@@ -55,7 +45,7 @@ impl Refusal {
 }
 
 // Which step on a ticket's way refuses it.
-#[derive(Clone, Copy)]
+#[derive(Clone, Copy, Debug, PartialEq, Eq)]
 pub enum Layer {
     Reader,
     Sizing,
@@ -63,7 +53,7 @@ pub enum Layer {
 }
 
 // A refusal with its place: the record, counted from 0, and the byte in it.
-#[derive(Clone, Copy)]
+#[derive(Clone, Copy, Debug, PartialEq, Eq)]
 pub struct Fault {
     pub refusal: Refusal,
     pub layer: Layer,

@@ -1,7 +1,7 @@
 // The parts of one record, each checked at its place.
 ghost use Rattle.std.specs.Prelude.{◌≡◌, ◌<◌, ◌≤◌, length};
 ghost use Rattle.ticket.specs.Drafts.{seen};
-ghost use Rattle.ticket.specs.Numbers.{is_degree, is_end, relation_of};
+ghost use Rattle.ticket.specs.Numbers.{is_degree, is_end};
 ghost use Rattle.ticket.specs.Reading.{zeros as blank, exponents as fit, axis_of, term_of, question_of};
 
 use super::draft::Draft;
@@ -22,27 +22,13 @@ fn zeros(rest: &[u8], record: usize, byte: usize) -> Result<(), Fault>
 fn is_degree(degree: u8) -> bool
     ensures { result ≡ is_degree degree }
 {
-    1 <= degree && degree <= 8
+    (1..=8).contains(&degree)
 }
 
 fn is_end(end: i32) -> bool
     ensures { result ≡ is_end end }
 {
-    -30000 <= end && end <= 30000
-}
-
-impl Relation {
-    fn from_number(number: u8) -> Option<Relation>
-        ensures { result ≡ relation_of number }
-    {
-        match number {
-            1 => Some(Relation::Greater),
-            2 => Some(Relation::AtLeast),
-            3 => Some(Relation::Less),
-            4 => Some(Relation::AtMost),
-            _ => None,
-        }
-    }
+    (-30000..=30000).contains(&end)
 }
 
 pub(crate) fn axis(
@@ -116,9 +102,7 @@ pub(crate) fn question(
     ensures { result ≡ question_of «record» relation depth rest.now }
 {
     zeros(rest, record, 3)?;
-    let Some(relation) = Relation::from_number(relation) else {
-        return Err(Fault::at(Refusal::Relation, record, 1));
-    };
+    let relation = Relation::try_from(relation).map_err(|refusal| Fault::at(refusal, record, 1))?;
     check(depth <= 24, Refusal::Depth, record, 2)?;
     Ok(Question { relation, depth })
 }

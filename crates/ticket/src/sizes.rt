@@ -8,7 +8,7 @@ use super::sizing::{Part, patch_count, scale, size};
 
 // How many numbers a patch has, the factor that makes all numbers of the first patch whole, and how large its values and its drifts
 // can be.
-#[derive(Clone, Copy)]
+#[derive(Clone, Copy, Debug, PartialEq, Eq)]
 pub struct Sizes {
     pub patch: usize,
     pub scale: u64,

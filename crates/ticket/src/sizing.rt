@@ -1,6 +1,5 @@
 // How large a ticket is. Sizes are computed up to a cap, one more than the largest that is accepted, so that no product wraps.
 ghost use Rattle.std.specs.Prelude.{◌≡◌, ◌+◌, ◌*◌, ◌^◌, ◌≤◌, length, unsigned_abs};
-ghost use Rattle.number.specs.Limits.{carries};
 ghost use Rattle.ticket.specs.Capped.{capped, part_of};
 ghost use Rattle.ticket.specs.Law.{content};
 ghost use Rattle.ticket.specs.SizedLaw.{sized_content};
@@ -129,19 +128,13 @@ pub(crate) fn size(part: Part, axes: &[Axis], terms: &[Term]) -> u64
     times(scale(axes), terms_size(part, axes, terms))
 }
 
-fn is_carried(drifts: bool, term: &Term) -> bool
-    ensures { result ≡ carries drifts term.now.drift }
-{
-    drifts || term.drift == 0
-}
-
 // The terms, of which the first is record `first`, have no drift that the kind of number does not carry.
 fn check_drifts(drifts: bool, first: usize, terms: &[Term]) -> Result<(), Fault>
     requires { (first ≤ 4) × (length terms.now ≤ 128) }
     ensures { result ≡ drifts_carried drifts first terms.now }
 {
     for (k, term) in terms.iter().enumerate() {
-        check(is_carried(drifts, term), Refusal::Drift, first + k, 12)?;
+        check(term.is_carried(drifts), Refusal::Drift, first + k, 12)?;
     }
     Ok(())
 }

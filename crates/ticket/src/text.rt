@@ -9,11 +9,11 @@ impl Display for Layer {
     ghost output = { λ l. Some (layer_name l) };
 
     fn fmt<W: Write>(&self, f: &mut Formatter<W>) -> Result {
-        match self {
-            Layer::Reader => f.write_str("reader"),
-            Layer::Sizing => f.write_str("sizing"),
-            Layer::Workspace => f.write_str("workspace"),
-        }
+        f.write_str(match self {
+            Layer::Reader => "reader",
+            Layer::Sizing => "sizing",
+            Layer::Workspace => "workspace",
+        })
     }
 }
 
@@ -22,10 +22,13 @@ impl Display for Fault {
     ghost output = { λ f. Some (fault_line f) };
 
     fn fmt<W: Write>(&self, f: &mut Formatter<W>) -> Result {
-        let number = self.refusal.number();
-        let layer = self.layer;
-        let record = self.record;
-        let byte = self.byte;
+        let Fault {
+            refusal,
+            layer,
+            record,
+            byte,
+        } = *self;
+        let number = u8::from(refusal);
         write!(f, "ticket {number} {layer} {record} {byte}")
     }
 }
