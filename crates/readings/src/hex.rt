@@ -30,9 +30,5 @@ fn byte(pair: &[u8]) -> Result<u8, BadLine>
 pub(crate) fn hex_bytes(heap: Global, digits: &str) -> Result<Vec<u8>, BadLine>
     ensures { IfOk result (λ v. bytes_of digits.now ≡ Some v.items) }
 {
-    let mut bytes = Vec::new(heap);
-    for pair in digits.as_bytes().chunks(2) {
-        bytes.push(byte(pair)?)?;
-    }
-    Ok(bytes)
+    digits.as_bytes().chunks(2).map(byte).try_collect(heap)
 }
