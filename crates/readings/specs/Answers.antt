@@ -1,10 +1,10 @@
 -- The answer that stands for a fault, and how it is printed.
 use Rattle.std.specs.Prelude.{◌≡◌, ℕ, Bool, false, cond, ◌&&◌, List, ◌++◌, Some, None, Option, Ok, Err, codes, decimal, Result, nat_le}
-use Rattle.readings.specs.Trials.{drifts_of}
+use Rattle.readings.specs.Kinds.{drifts_of}
 use Rattle.readings.specs.declared.answer.Answer.{Answer}
 use Rattle.readings.specs.declared.answer.Answer.TheVariants.{Read, Sized, Refused, OtherLayer, OutOfMemory}
 use Rattle.readings.specs.declared.answer.Place.{Place}
-use Rattle.readings.specs.declared.trial.Kind.{Kind}
+use Rattle.readings.specs.declared.kind.Kind.{Kind}
 use Rattle.ticket.specs.Faults.{refusal_number, next}
 use Rattle.ticket.specs.Reading.{reading}
 use Rattle.ticket.specs.Sizes.{sizing}

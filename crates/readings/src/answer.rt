@@ -3,7 +3,7 @@ ghost use Rattle.std.specs.Prelude.{◌≡◌, Some};
 ghost use Rattle.readings.specs.Answers.{is_given, place_of, answer_of, ticket_answer, Told, place_text, answer_text};
 ghost use Rattle.ticket.specs.Law.{content};
 
-use super::trial::Kind;
+use super::kind::Kind;
 use std::alloc::Global;
 use std::fmt;
 use ticket::{Failure, Fault, Layer, Reader, Ticket};

@@ -1,7 +1,7 @@
 // What the last field of a line expects: how far the ticket is taken, and the answer to that.
 use super::answer::{Answer, Place};
 use super::bad_line::BadLine;
-use super::trial::Kind;
+use super::kind::Kind;
 use std::alloc::Global;
 
 // A ticket is read, and then, where a kind is named, sized.

@@ -9,8 +9,8 @@ mod bad_line;
 mod case;
 mod expected;
 mod hex;
+mod kind;
 mod tally;
-mod trial;
 
 use answer::Answer;
 use case::Case;

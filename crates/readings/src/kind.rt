@@ -1,6 +1,6 @@
 // What the numbers carry that a ticket is sized for.
 ghost use Rattle.std.specs.Prelude.{◌≡◌};
-ghost use Rattle.readings.specs.Trials.{drifts_of};
+ghost use Rattle.readings.specs.Kinds.{drifts_of};
 
 #[derive(Clone, Copy, PartialEq, Eq)]
 pub enum Kind {
