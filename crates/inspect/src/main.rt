@@ -5,16 +5,9 @@ use page::Page;
 use std::{fs, io};
 use ticket::{Failure, Reader};
 
-// A file that cannot be read counts as empty, and no ticket is empty.
-fn ticket_bytes(rt: &HostRuntime) -> Vec<u8> {
-    match fs::read(rt, "ticket.bin") {
-        Ok(bytes) => bytes,
-        Err(_) => Vec::new(rt.alloc()),
-    }
-}
-
 fn main(rt: HostRuntime) -> io::Result<()> {
-    let bytes = ticket_bytes(&rt);
+    // A file that cannot be read counts as empty, and no ticket is empty.
+    let bytes = fs::read(&rt, "ticket.bin").unwrap_or_else(|_| Vec::new(rt.alloc()));
     match Reader::new(&bytes).ticket(rt.alloc()) {
         Ok(ticket) => {
             let page = Page(&ticket);

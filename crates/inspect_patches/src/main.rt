@@ -9,14 +9,6 @@ use shown::Shown;
 use std::{env, fs, io};
 use ticket::{Failure, Reader, Ticket};
 
-// A file that cannot be read counts as empty, and no ticket is empty.
-fn ticket_bytes(rt: &HostRuntime, name: &str) -> Vec<u8> {
-    match fs::read(rt, name) {
-        Ok(bytes) => bytes,
-        Err(_) => Vec::new(rt.alloc()),
-    }
-}
-
 // The page of a ticket, and what its sizes come to: the first patch, or why there is none.
 fn show_ticket(rt: &HostRuntime, ticket: Ticket) -> io::Result<Option<Shown>> {
     let page = Page(&ticket);
@@ -36,18 +28,14 @@ fn show_ticket(rt: &HostRuntime, ticket: Ticket) -> io::Result<Option<Shown>> {
 }
 
 fn show_file(rt: &HostRuntime, name: &str) -> io::Result<Option<Shown>> {
-    let bytes = ticket_bytes(rt, name);
+    // A file that cannot be read counts as empty, and no ticket is empty.
+    let bytes = fs::read(rt, name).unwrap_or_else(|_| Vec::new(rt.alloc()));
     match Reader::new(&bytes).ticket(rt.alloc()) {
-        Ok(ticket) => show_ticket(rt, ticket),
-        Err(Failure::Refused(fault)) => {
-            println!(rt; "{fault}")?;
-            Ok(None)
-        }
-        Err(Failure::OutOfMemory) => {
-            println!(rt; "out of memory")?;
-            Ok(None)
-        }
+        Ok(ticket) => return show_ticket(rt, ticket),
+        Err(Failure::Refused(fault)) => println!(rt; "{fault}")?,
+        Err(Failure::OutOfMemory) => println!(rt; "out of memory")?,
     }
+    Ok(None)
 }
 
 fn main(rt: HostRuntime) -> io::Result<()> {

@@ -2,7 +2,7 @@
 use algebra::Half;
 use number::{Drifting, Number};
 use page::{Numbers, SizeLines};
-use patch::{halve, write_first_patch};
+use patch::{PatchRefusal, halve, write_first_patch};
 use std::alloc::Global;
 use std::io;
 use ticket::SizedTicket;
@@ -17,16 +17,14 @@ pub(crate) struct Shown {
 
 impl Shown {
     pub(crate) fn of(heap: Global, ticket: SizedTicket) -> io::Result<Shown> {
-        let mut degrees = Vec::new(heap);
-        for axis in ticket.ticket.axes.as_slice() {
-            degrees.push(axis.degree)?;
-        }
-        let mut work = Vec::new(heap);
-        if let Some(zero) = Drifting::make(0, 0) {
-            for _ in 0..2 * ticket.sizes().patch {
-                work.push(zero)?;
-            }
-        }
+        let degrees = ticket
+            .ticket
+            .axes
+            .iter()
+            .map(|axis| axis.degree)
+            .collect(heap)?;
+        let zero = Drifting::make(0, 0).unwrap();
+        let work = vec![in heap; zero; 2 * ticket.sizes().patch]?;
         Ok(Shown {
             ticket,
             degrees,
@@ -38,28 +36,27 @@ impl Shown {
         let sizes = SizeLines(self.ticket.sizes());
         println!(rt; "{sizes}")?;
         let size = self.ticket.sizes().patch;
-        let written = write_first_patch(&self.ticket, self.work.as_mut_slice());
-        if written && size <= self.work.len() {
-            let numbers = Numbers(&self.work.as_slice()[0..size]);
+        let written = write_first_patch(&self.ticket, &mut self.work);
+        if written.is_ok() {
+            let numbers = Numbers(&self.work[..size]);
             println!(rt; "first patch: {numbers}")?;
         }
         Ok(())
     }
 
+    // Both halves of the first patch, one behind the other.
+    fn write_halves(&mut self, axis: u8) -> Result<(), PatchRefusal> {
+        write_first_patch(&self.ticket, &mut self.work)?;
+        let axis = usize::from(axis);
+        halve(&mut self.work, 0, &self.degrees, axis, Half::Upper)
+    }
+
     pub(crate) fn print_halves(&mut self, rt: &HostRuntime, axis: u8) -> io::Result<()> {
         let size = self.ticket.sizes().patch;
-        let written = write_first_patch(&self.ticket, self.work.as_mut_slice());
-        let halved = halve(
-            self.work.as_mut_slice(),
-            0,
-            self.degrees.as_slice(),
-            usize::from(axis),
-            Half::Upper,
-        );
-        if written && halved && 2 * size <= self.work.len() {
-            let lower = Numbers(&self.work.as_slice()[0..size]);
+        if self.write_halves(axis).is_ok() && 2 * size <= self.work.len() {
+            let lower = Numbers(&self.work[..size]);
             println!(rt; "lower half along axis {axis}: {lower}")?;
-            let upper = Numbers(&self.work.as_slice()[size..2 * size]);
+            let upper = Numbers(&self.work[size..2 * size]);
             println!(rt; "upper half along axis {axis}: {upper}")
         } else {
             println!(rt; "no halves along axis {axis}")

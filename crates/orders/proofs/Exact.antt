@@ -10,7 +10,13 @@ use Rattle.std.proofs.lemmas.Bool.Decides.{nat_tests}
 use Rattle.search.specs.declared.call.Call.{Call}
 use Rattle.search.specs.declared.call.Call.TheVariants.{Run, Deepen, Verdict, Point}
 use Rattle.orders.specs.Orders.{digits_value, small, number_of, alone, by_letter, call_of, Numbered, Asks, OrdersAreExact}
-use Rattle.orders.proofs.Words.{letter, small_is}
+
+-- ---- by the definitions
+small_is : (n : ℕ) → n ≤ 65535 → Some n ≡ small (Some n)
+small_is n h = grind (arith, nat_tests)
+
+letter : {X : Type 0} {c : ℕ} (k : ℕ) (r d v p z : X) → c ≡ k → by_letter k r d v p z ≡ by_letter c r d v p z
+letter k r d v p z e = ap (λ x. by_letter x r d v p z) (sym e)
 
 -- ---- answers that are there
 nothing : {X : Type 0} (x : X) → None ≡ Some x → ⊥

@@ -1,5 +1,3 @@
-mod Words
 mod Exact
 mod ReadBack
 mod Split
-mod Spaced

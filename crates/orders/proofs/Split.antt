@@ -1,8 +1,11 @@
 -- A text split at its first newline.
-use Rattle.std.proofs.Common.{◌≡◌, ℕ, zero, suc, ◌+◌, ◌-◌, ◌<◌, eqb, List, [], ◌∷◌, ◌++◌, length, get_or, take, drop, sym, refl, ap, ◌∙◌, append_assoc, add-one, arith}
-use Rattle.std.specs.List.{flat_map, AllByRecursion}
-use Rattle.std.proofs.lemmas.List.{drop_all, nil_from_length, take_rest}
-use Rattle.std.proofs.lemmas.Bool.{cond-true, cond-false, eq-eqb, ne_eqb}
+use Rattle.std.proofs.Common.{◌≡◌, ℕ, zero, suc, ◌+◌, ◌-◌, ◌<◌, ◌≤◌, eqb, List, [], ◌∷◌, ◌++◌, length, get_or, take, drop, position, Some, None, sym, refl, ap, ◌∙◌, append_assoc, add-one, arith}
+use Rattle.std.specs.List.{flat_map, AllByRecursion, position_or_len}
+use Rattle.std.proofs.lemmas.List.{take_rest}
+use Rattle.std.proofs.lemmas.List.Quantifiers.{position-Some}
+use Rattle.std.proofs.lemmas.List.Sums.{fails_before_first}
+use Rattle.std.proofs.lemmas.Bool.{cond-true, cond-false, eq-eqb, eqb-true, eqb-false, ne_eqb}
+use Rattle.std.proofs.lemmas.Bool.Decides.{nat_tests}
 use Rattle.orders.specs.Lines.{longer, lines_of, NoNewline, ended, LinesAreReadBack}
 
 -- no newline at any place below n
@@ -32,26 +35,23 @@ no_newline : (text : List ℕ) → NoneBelow (length text) text → NoNewline te
 no_newline [] b = tt
 no_newline (c ∷ cs) b = (b zero (omega arith), no_newline cs (λ k l. b (suc k) (omega arith)))
 
--- a text without a newline is one line
-pub one_line : (text : List ℕ) → 0 < length text → NoneBelow (length text) text → lines_of text ≡ text ∷ []
-one_line [] h b = absurd (omega arith)
-one_line (c ∷ cs) h b = last_open c cs (no_newline (c ∷ cs) b)
+-- ---- by where the first newline is
+unended : (text : List ℕ) → None ≡ position (λ b. eqb b 10) text → NoneBelow (length text) text
+unended text e k l h =
+    let n : length text ≤ position_or_len (λ b. eqb b 10) text = grind (arith, nat_tests) in
+    eqb-false _ 10 (fails_before_first (λ b. eqb b 10) text k 0 (omega arith)) h
 
--- ---- as the parts of a slice
-pub no_line : (text : List ℕ) → length text ≡ 0 → lines_of text ≡ []
-no_line text h = ap lines_of (nil_from_length text h)
-
-pub line_and_rest : (text : List ℕ) (r : ℕ) → r < length text → get_or text r 0 ≡ 10 → NoneBelow r text → lines_of text ≡ take (r - 0) text ∷ lines_of (take (length text - (r + 1)) (drop (r + 1) text))
-line_and_rest text r h e b =
-    line_found text r h e b
+-- the line in front of it, and what is behind it
+pub line_and_rest : (text : List ℕ) (r : ℕ) → Some r ≡ position (λ b. eqb b 10) text → lines_of text ≡ take r text ∷ lines_of (take (length text - (r + 1)) (drop (r + 1) text))
+line_and_rest text r e =
+    let p = position-Some (λ b. eqb b 10) text r 0 (sym e) in
+    line_found text r p.0 (eqb-true _ 10 p.1) (λ k l h. eqb-false _ 10 (p.2 k l) h)
     ∙ ap (λ (n : ℕ). take r text ∷ lines_of (drop n text)) (sym (add-one r))
-    ∙ ap (λ (n : ℕ). take n text ∷ lines_of (drop (r + 1) text)) (omega arith)
-    ∙ ap (λ (l : List ℕ). take (r - 0) text ∷ lines_of l) (sym (take_rest text (r + 1)))
+    ∙ ap (λ (l : List ℕ). take r text ∷ lines_of l) (sym (take_rest text (r + 1)))
 
-pub line_and_end : (text : List ℕ) (r : ℕ) → 0 < length text → r ≡ length text → NoneBelow r text → lines_of text ≡ text ∷ lines_of (take (length text - r) (drop r text))
-line_and_end text r h e b =
-    one_line text h (λ k l. b k (omega arith))
-    ∙ ap (λ (l : List ℕ). text ∷ lines_of l) (sym (take_rest text r ∙ drop_all r text (omega arith)))
+pub one_line : (text : List ℕ) → 0 < length text → None ≡ position (λ b. eqb b 10) text → lines_of text ≡ text ∷ []
+one_line [] h e = absurd (omega arith)
+one_line (c ∷ cs) h e = last_open c cs (no_newline (c ∷ cs) (unended (c ∷ cs) e))
 
 -- ---- lines put together
 all_ended : (lines : List (List ℕ)) → AllByRecursion NoNewline lines → lines_of (flat_map ended lines) ≡ lines

@@ -1,5 +1,5 @@
 // The lines of a text of orders.
-ghost use Rattle.std.specs.Prelude.{◌≡◌, ℕ, ◌<◌, ◌≤◌, [], ◌∷◌, length, MatchOption, ◌≢◌, slice_index};
+ghost use Rattle.std.specs.Prelude.{◌≡◌, ◌==◌, ◌<◌, [], ◌∷◌, length, MatchOption, position};
 ghost use Rattle.orders.specs.Lines.{lines_of, admission, LinesAreReadBack};
 
 use super::refusal::OrderRefusal;
@@ -17,21 +17,15 @@ pub fn admit(text: &[u8]) -> Result<(), OrderRefusal>
     }
 }
 
-// Where the first newline is, or the end where there is none.
-fn line_end(text: &[u8]) -> usize
-    ensures within { result ≤ length text.now }
-    ensures stops { result < length text.now → slice_index text.now result ≡ 10 }
-    ensures before { (k : ℕ) → k < result → slice_index text.now k ≢ 10 }
+// Where the first newline is.
+fn line_end(text: &[u8]) -> Option<usize>
+    ensures { result ≡ position (λ b. b == 10) text.now }
 {
-    for (at, b) in text.iter().enumerate() {
-        if *b == b'\n' {
-            return at;
-        }
-    }
-    text.len()
+    text.iter().position(|b| *b == b'\n')
 }
 
 // The first line of a text without its newline, and the text behind that; none at the end of the text.
+#[tactic(auto, using(crate::proofs::Split::line_and_rest, crate::proofs::Split::one_line, crate::proofs::Split::lines_are_read_back))]
 pub fn next_line(text: &[u8]) -> Option<(&[u8], &[u8])>
     ensures line { MatchOption result (lines_of text.now ≡ []) (λ p. lines_of text.now ≡ p.0.now ∷ lines_of p.1.now) }
     ensures shorter { MatchOption result (length text.now ≡ 0) (λ p. length p.1.now < length text.now) }
@@ -40,10 +34,8 @@ pub fn next_line(text: &[u8]) -> Option<(&[u8], &[u8])>
     if text.is_empty() {
         return None;
     }
-    let end = line_end(text);
-    if end < text.len() {
-        Some((&text[0..end], &text[end + 1..]))
-    } else {
-        Some((text, &text[end..]))
+    match line_end(text) {
+        Some(end) => Some((&text[..end], &text[end + 1..])),
+        None => Some((text, &[])),
     }
 }

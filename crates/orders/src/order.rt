@@ -12,12 +12,9 @@ fn digits(text: &[u8]) -> Option<u32>
     requires { length text.now ≤ 5 }
     ensures { result ≡ digits_value 0 text.now }
 {
-    let mut value: u32 = 0;
+    let mut value = 0;
     for b in text {
-        if !b.is_ascii_digit() {
-            return None;
-        }
-        value = value * 10 + u32::from(*b - b'0');
+        value = value * 10 + char::from(*b).to_digit(10)?;
     }
     Some(value)
 }
@@ -27,45 +24,26 @@ fn number(text: &[u8]) -> Option<u32>
     ensures { result ≡ number_of text.now }
 {
     match text {
-        [b' ', figures @ ..] => {
-            if figures.len() < 1 || figures.len() > 5 {
-                return None;
-            }
-            match digits(figures) {
-                Some(n) => { if n <= LARGEST { Some(n) } else { None } }
-                None => None,
-            }
+        [b' ', figures @ ..] if (1..=5).contains(&figures.len()) => {
+            digits(figures).filter(|n| *n <= LARGEST)
         }
         _ => None,
     }
 }
 
 // The call that an order asks for; none if the line is unreadable.
+#[tactic(auto, using(crate::proofs::Exact::orders_are_exact, crate::proofs::ReadBack::orders_are_read_back))]
 pub fn call(line: &[u8]) -> Option<Call>
     ensures meaning { result ≡ call_of line.now }
     ensures exact { OrdersAreExact }
     ensures back { OrdersAreReadBack }
 {
-    match line {
-        [] => None,
-        [first, rest @ ..] => match *first as char {
-            'r' => Some(Call::Run(number(rest)?)),
-            'd' => Some(Call::Deepen(number(rest)?)),
-            'v' => {
-                if rest.is_empty() {
-                    Some(Call::Verdict)
-                } else {
-                    None
-                }
-            }
-            'p' => {
-                if rest.is_empty() {
-                    Some(Call::Point)
-                } else {
-                    None
-                }
-            }
-            _ => None,
-        },
+    let (first, rest) = line.split_first()?;
+    match char::from(*first) {
+        'r' => number(rest).map(Call::Run),
+        'd' => number(rest).map(Call::Deepen),
+        'v' => rest.is_empty().then_some(Call::Verdict),
+        'p' => rest.is_empty().then_some(Call::Point),
+        _ => None,
     }
 }

@@ -3,24 +3,13 @@ use super::*;
 use search::{Call, Verdict, Word};
 use std::test::Fail;
 
-// What is read of a line, by its letter and number.
-fn read(line: &[u8]) -> Option<(char, u32)> {
-    match call(line) {
-        Some(Call::Run(n)) => Some(('r', n)),
-        Some(Call::Deepen(n)) => Some(('d', n)),
-        Some(Call::Verdict) => Some(('v', 0)),
-        Some(Call::Point) => Some(('p', 0)),
-        None => None,
-    }
-}
-
 #[test]
 fn orders_are_read(rt: HostRuntime) {
-    assert_eq!(rt; read(b"r 65535"), Some(('r', 65535)));
-    assert_eq!(rt; read(b"r 00005"), Some(('r', 5)));
-    assert_eq!(rt; read(b"d 24"), Some(('d', 24)));
-    assert_eq!(rt; read(b"v"), Some(('v', 0)));
-    assert_eq!(rt; read(b"p"), Some(('p', 0)));
+    assert_eq!(rt; call(b"r 65535"), Some(Call::Run(65535)));
+    assert_eq!(rt; call(b"r 00005"), Some(Call::Run(5)));
+    assert_eq!(rt; call(b"d 24"), Some(Call::Deepen(24)));
+    assert_eq!(rt; call(b"v"), Some(Call::Verdict));
+    assert_eq!(rt; call(b"p"), Some(Call::Point));
 }
 
 #[test]
@@ -30,16 +19,13 @@ fn other_lines_are_unreadable(rt: HostRuntime) {
         "p 1", "x",
     ];
     for line in lines {
-        assert_eq!(rt; read(line.as_bytes()), None, "{}", line);
+        assert_eq!(rt; call(line.as_bytes()), None, "{}", line);
     }
 }
 
 // The length of the first line and of what follows it.
 fn lengths(text: &[u8]) -> Option<(usize, usize)> {
-    match next_line(text) {
-        Some((line, rest)) => Some((line.len(), rest.len())),
-        None => None,
-    }
+    next_line(text).map(|(line, rest)| (line.len(), rest.len()))
 }
 
 #[test]
@@ -55,10 +41,10 @@ fn a_text_has_its_lines(rt: HostRuntime) {
 
 #[test]
 fn answers_are_shown(rt: HostRuntime) -> Result<(), Fail> {
-    let ran = Ran(65535);
-    let deepened = Deepened(24);
-    let no = No(OrderRefusal::Unreadable.number());
-    let point = PointLine(&[
+    let ran = Answer::Ran(65535);
+    let deepened = Answer::Deepened(24);
+    let no = Answer::Refused(u8::from(OrderRefusal::Unreadable));
+    let point = Answer::Pointed(&[
         Coordinate {
             numerator: -3,
             power: 0,
@@ -68,7 +54,7 @@ fn answers_are_shown(rt: HostRuntime) -> Result<(), Fail> {
             power: 2,
         },
     ]);
-    let verdict = VerdictLine(Verdict {
+    let verdict = Answer::Told(Verdict {
         word: Word::Open,
         examined: 7,
         waiting: 0,

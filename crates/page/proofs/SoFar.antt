@@ -1,10 +1,10 @@
 -- A text that a loop writes part by part.
-use Rattle.std.proofs.Common.{◌≡◌, ℕ, ◌+◌, ◌<◌, ◌≤◌, List, [], ◌∷◌, ◌++◌, length, get_or, drop, sym, refl, ap, ◌∙◌, append_assoc, append-nil, add-one, drop-cons}
+use Rattle.std.proofs.Common.{◌≡◌, ℕ, ◌+◌, ◌<◌, ◌≤◌, List, [], ◌∷◌, ◌++◌, length, get_or, drop, sym, ap, ◌∙◌, append_assoc, append-nil, add-one, drop-cons}
 use Rattle.std.specs.declared.fmt.Formatter.{Formatter}
-use Rattle.std.specs.Fmt.{IsPlainFormatter, HasWritten}
+use Rattle.std.specs.Fmt.{HasWritten}
 use Rattle.std.proofs.lemmas.List.{drop_all}
 use Rattle.page.specs.Text.{numbered}
-use Rattle.std.proofs.Output.{writes_in_calls_nil, has_written_append, has_written_of_eq}
+use Rattle.std.proofs.Output.{has_written_append, has_written_of_eq}
 
 -- from f to g all of the text is written but for the rest
 pub record SoFar {W : Type 0} (took : W → List ℕ → W → Type 0) (f g : Formatter W) (rest whole : List ℕ) : Type 0 where
@@ -13,9 +13,6 @@ pub record SoFar {W : Type 0} (took : W → List ℕ → W → Type 0) (f g : Fo
   pub joins : text ++ rest ≡ whole
 
 module _ {W : Type 0} (took : W → List ℕ → W → Type 0) where
-  pub so_far_none : (f : Formatter W) (whole : List ℕ) → IsPlainFormatter f → SoFar took f f whole whole
-  so_far_none f whole p = record { text = []; put = record { wrote = writes_in_calls_nil took f.writer; plain = p }; joins = refl }
-
   -- a turn writes x, which what was left begins with
   pub so_far_more : (f g h : Formatter W) (x left rest whole : List ℕ) → SoFar took f g left whole → left ≡ x ++ rest → HasWritten took g x h → SoFar took f h rest whole
   so_far_more f g h x left rest whole s e p = record {

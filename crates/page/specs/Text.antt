@@ -1,6 +1,7 @@
 -- What the page of a ticket says.
 use Rattle.std.specs.Prelude.{ℕ, ◌+◌, Bool, true, false, cond, not, ◌&&◌, List, [], ◌∷◌, ◌++◌, length, ℤ, pos, vec_items, codes, decimal, ◌==◌, int_lt, unsigned_abs}
 use Rattle.std.specs.Fmt.{signed_decimal}
+use Rattle.std.specs.List.{list_all}
 use Rattle.algebra.specs.Pair.{pair}
 use Rattle.number.specs.Text.{pair_text}
 use Rattle.number.specs.declared.kinds.Drifting.{Drifting}
@@ -49,8 +50,7 @@ powers_text leads j [] = []
 powers_text leads j (e ∷ es) = factor_text leads j e ++ powers_text (leads && e == 0) (j + 1) es
 
 abbrev pub constant : List ℕ → Bool
-constant [] = true
-constant (e ∷ es) = e == 0 && constant es
+constant es = list_all (λ e. e == 0) es
 
 -- a size before its powers; 1 is left out where a power stands
 abbrev pub product_text : ℕ → List ℕ → List ℕ
@@ -66,10 +66,13 @@ is_zero z = unsigned_abs z == 0
 abbrev pub drift_text : ℤ → List ℕ
 drift_text d = cond (is_zero d) [] (codes " (drift " ++ (signed_decimal d ++ codes ")"))
 
+-- a term behind its sign
+abbrev pub unsigned_text : Term → List ℕ
+unsigned_text t = product_text (unsigned_abs t.coefficient) t.exponents ++ drift_text t.drift
+
 -- a term, which leads the sum or comes later in it
 abbrev pub summand_text : Bool → Term → List ℕ
-summand_text leads t =
-    sign_text leads (int_lt t.coefficient (pos 0)) ++ (product_text (unsigned_abs t.coefficient) t.exponents ++ drift_text t.drift)
+summand_text leads t = sign_text leads (int_lt t.coefficient (pos 0)) ++ unsigned_text t
 
 -- the texts of some values one after another, where the text of each knows its place, and the first is at place n
 abbrev pub numbered : {X : Type 0} → (ℕ → X → List ℕ) → ℕ → List X → List ℕ

@@ -1,6 +1,6 @@
 // The axes and the relation of a ticket as text.
-ghost use Rattle.std.specs.Prelude.{◌≡◌, Some};
-ghost use Rattle.page.specs.Text.{relation_sign, left_bracket, right_bracket, interval_text, axis_text};
+ghost use Rattle.std.specs.Prelude.{Some};
+ghost use Rattle.page.specs.Text.{relation_sign, interval_text, axis_text};
 
 use std::fmt::{Display, Formatter, Result, Write};
 use ticket::{Axis, Relation};
@@ -13,25 +13,13 @@ impl Display for RelationSign {
     ghost output = { λ s. Some (relation_sign s.0) };
 
     fn fmt<W: Write>(&self, f: &mut Formatter<W>) -> Result {
-        match self.0 {
-            Relation::Greater => f.write_str(">"),
-            Relation::AtLeast => f.write_str(">="),
-            Relation::Less => f.write_str("<"),
-            Relation::AtMost => f.write_str("<="),
-        }
+        f.write_str(match self.0 {
+            Relation::Greater => ">",
+            Relation::AtLeast => ">=",
+            Relation::Less => "<",
+            Relation::AtMost => "<=",
+        })
     }
-}
-
-fn left(open: bool) -> &'static str
-    ensures { result.now ≡ left_bracket «open» }
-{
-    if open { "(" } else { "[" }
-}
-
-fn right(open: bool) -> &'static str
-    ensures { result.now ≡ right_bracket «open» }
-{
-    if open { ")" } else { "]" }
 }
 
 // The interval that an axis runs over, as `(-5, 30000]`.
@@ -45,8 +33,8 @@ impl Display for Interval {
         let axis = self.0;
         let lower = axis.lower;
         let upper = axis.upper;
-        let left = left(axis.lower_open);
-        let right = right(axis.upper_open);
+        let left = if axis.lower_open { "(" } else { "[" };
+        let right = if axis.upper_open { ")" } else { "]" };
         write!(f, "{left}{lower}, {upper}{right}")
     }
 }

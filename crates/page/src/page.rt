@@ -42,21 +42,24 @@ impl Display for Counted {
     }
 }
 
-fn records_of(ticket: &Ticket) -> usize
-    ensures { result ≡ record_count ticket.now }
-{
-    ticket.axes.len() + ticket.terms.len() + 1
-}
-
 // How many records the ticket has, and of what kind.
 #[derive(Drop)]
 struct Records<'a>(&'a Ticket);
+
+impl<'a> Records<'a> {
+    fn count(&self) -> usize
+        ensures { result ≡ record_count self.now.0.now }
+    {
+        let ticket = self.0;
+        ticket.axes.len() + ticket.terms.len() + 1
+    }
+}
 
 impl<'a> Display for Records<'a> {
     ghost output = { λ r. Some (records_text r.0.now) };
 
     fn fmt<W: Write>(&self, f: &mut Formatter<W>) -> Result {
-        let records = records_of(self.0);
+        let records = self.count();
         let axes = Counted {
             count: self.0.axes.len(),
             one: "axis",

@@ -1,30 +1,10 @@
 // The numbers of a ticket's patches as text.
 ghost use Rattle.std.specs.Prelude.{Some};
-ghost use Rattle.page.specs.Text.{listed_text, numbers_text, sizes_text};
+ghost use Rattle.page.specs.Text.{numbers_text, sizes_text};
 
 use number::Drifting;
 use std::fmt::{Display, Formatter, Result, Write};
 use ticket::Sizes;
-
-// A number in a list, which it leads or not.
-#[derive(Clone, Copy)]
-struct Listed {
-    leads: bool,
-    number: Drifting,
-}
-
-impl Display for Listed {
-    ghost output = { λ l. Some (listed_text l.leads l.number) };
-
-    fn fmt<W: Write>(&self, f: &mut Formatter<W>) -> Result {
-        let number = self.number;
-        if self.leads {
-            write!(f, "{number}")
-        } else {
-            write!(f, ", {number}")
-        }
-    }
-}
 
 // The numbers of a patch in their order, as `0, -20, 10`.
 #[derive(Drop)]
@@ -34,11 +14,12 @@ impl<'a> Display for Numbers<'a> {
     ghost output = { λ n. Some (numbers_text n.0.now) };
 
     fn fmt<W: Write>(&self, f: &mut Formatter<W>) -> Result {
-        for (place, x) in self.0.iter().enumerate() {
-            let leads = place == 0;
-            let number = *x;
-            let listed = Listed { leads, number };
-            write!(f, "{listed}")?;
+        let Some((first, rest)) = self.0.split_first() else {
+            return Ok(());
+        };
+        write!(f, "{first}")?;
+        for number in rest {
+            write!(f, ", {number}")?;
         }
         Ok(())
     }

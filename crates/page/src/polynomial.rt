@@ -1,6 +1,6 @@
 // The polynomial of a ticket as text.
-ghost use Rattle.std.specs.Prelude.{◌≡◌, Some};
-ghost use Rattle.page.specs.Text.{sign_text, drift_text, summand_text, terms_text, polynomial_text};
+ghost use Rattle.std.specs.Prelude.{Some};
+ghost use Rattle.page.specs.Text.{drift_text, unsigned_text, polynomial_text};
 
 use super::product::Product;
 use std::fmt::{Display, Formatter, Result, Write};
@@ -16,61 +16,26 @@ impl Display for Drift {
     fn fmt<W: Write>(&self, f: &mut Formatter<W>) -> Result {
         let drift = self.0;
         if drift == 0 {
-            f.write_str("")
+            Ok(())
         } else {
             write!(f, " (drift {drift})")
         }
     }
 }
 
-fn sign(leads: bool, negative: bool) -> &'static str
-    ensures { result.now ≡ sign_text leads negative }
-{
-    match (leads, negative) {
-        (true, true) => "-",
-        (true, false) => "",
-        (false, true) => " - ",
-        (false, false) => " + ",
-    }
-}
-
-// A term as it stands in a sum, which it leads or not.
+// A term as it stands behind its sign.
 #[derive(Clone, Copy)]
-pub struct Summand {
-    pub leads: bool,
-    pub term: Term,
-}
+struct Unsigned(Term);
 
-impl Display for Summand {
-    ghost output = { λ s. Some (summand_text s.leads s.term) };
+impl Display for Unsigned {
+    ghost output = { λ t. Some (unsigned_text t.0) };
 
     fn fmt<W: Write>(&self, f: &mut Formatter<W>) -> Result {
-        let term = self.term;
-        let sign = sign(self.leads, term.coefficient < 0);
-        let size = term.coefficient.unsigned_abs();
-        let exponents = term.exponents;
+        let size = self.0.coefficient.unsigned_abs();
+        let exponents = self.0.exponents;
         let product = Product { size, exponents };
-        let drift = Drift(term.drift);
-        write!(f, "{sign}{product}{drift}")
-    }
-}
-
-// The sum of at least one term.
-#[derive(Drop)]
-struct Sum<'a>(&'a [Term]);
-
-impl<'a> Display for Sum<'a> {
-    ghost output = { λ s. Some (terms_text s.0.now) };
-
-    fn fmt<W: Write>(&self, f: &mut Formatter<W>) -> Result {
-        for (i, term) in self.0.iter().enumerate() {
-            let summand = Summand {
-                leads: i == 0,
-                term: *term,
-            };
-            write!(f, "{summand}")?;
-        }
-        Ok(())
+        let drift = Drift(self.0.drift);
+        write!(f, "{product}{drift}")
     }
 }
 
@@ -82,12 +47,17 @@ impl<'a> Display for Polynomial<'a> {
     ghost output = { λ p. Some (polynomial_text p.0.now) };
 
     fn fmt<W: Write>(&self, f: &mut Formatter<W>) -> Result {
-        let terms = self.0;
-        if terms.is_empty() {
-            f.write_str("0")
-        } else {
-            let sum = Sum(terms);
-            write!(f, "{sum}")
+        let Some((first, rest)) = self.0.split_first() else {
+            return f.write_str("0");
+        };
+        let sign = if first.coefficient < 0 { "-" } else { "" };
+        let first = Unsigned(*first);
+        write!(f, "{sign}{first}")?;
+        for term in rest {
+            let sign = if term.coefficient < 0 { " - " } else { " + " };
+            let term = Unsigned(*term);
+            write!(f, "{sign}{term}")?;
         }
+        Ok(())
     }
 }

@@ -1,6 +1,6 @@
 // The product of one term as text.
 ghost use Rattle.std.specs.Prelude.{◌≡◌, Some};
-ghost use Rattle.page.specs.Text.{power_text, factor_text, powers_text, constant, product_text};
+ghost use Rattle.page.specs.Text.{power_text, powers_text, constant, product_text};
 
 use std::fmt::{Display, Formatter, Result, Write};
 
@@ -25,28 +25,6 @@ impl Display for Power {
     }
 }
 
-// A power as it stands in a product.
-#[derive(Clone, Copy)]
-struct Factor {
-    leads: bool,
-    power: Power,
-}
-
-impl Display for Factor {
-    ghost output = { λ x. Some (factor_text x.leads x.power.axis x.power.exponent) };
-
-    fn fmt<W: Write>(&self, f: &mut Formatter<W>) -> Result {
-        let power = self.power;
-        if power.exponent == 0 {
-            f.write_str("")
-        } else if self.leads {
-            write!(f, "{power}")
-        } else {
-            write!(f, "*{power}")
-        }
-    }
-}
-
 // All powers of a product; none leads it where a number stands before them.
 #[derive(Clone, Copy)]
 struct Powers {
@@ -61,10 +39,13 @@ impl Display for Powers {
         let mut leads = self.leads;
         for (axis, e) in self.exponents.iter().enumerate() {
             let exponent = *e;
+            if exponent == 0 {
+                continue;
+            }
+            let times = if leads { "" } else { "*" };
             let power = Power { axis, exponent };
-            let factor = Factor { leads, power };
-            write!(f, "{factor}")?;
-            leads &= exponent == 0;
+            write!(f, "{times}{power}")?;
+            leads = false;
         }
         Ok(())
     }
@@ -73,12 +54,7 @@ impl Display for Powers {
 fn is_constant(exponents: &[u8]) -> bool
     ensures { result ≡ constant exponents.now }
 {
-    for e in exponents {
-        if *e != 0 {
-            return false;
-        }
-    }
-    true
+    exponents.iter().all(|e| *e == 0)
 }
 
 // The size of a coefficient times its powers, as `4*x0^2`; a size of 1 is left out where a power stands.

@@ -1,4 +1,4 @@
 pub mod Answers
 pub mod Hex
+pub mod Kinds
 pub mod Lines
-pub mod Trials

@@ -1,14 +1,14 @@
 // The answer to one ticket: what the table expects, and what the library gives.
 ghost use Rattle.std.specs.Prelude.{◌≡◌, Some};
-ghost use Rattle.readings.specs.Answers.{is_given, answer_of, ticket_answer, Told, place_text, answer_text};
+ghost use Rattle.readings.specs.Answers.{is_given, place_of, answer_of, ticket_answer, Told, place_text, answer_text};
 ghost use Rattle.ticket.specs.Law.{content};
 
-use super::trial::Trial;
+use super::kind::Kind;
 use std::alloc::Global;
 use std::fmt;
 use ticket::{Failure, Fault, Layer, Reader, Ticket};
 
-#[derive(Clone, Copy, PartialEq)]
+#[derive(Clone, Copy, PartialEq, Eq)]
 pub struct Place {
     pub number: u8,
     pub record: usize,
@@ -16,7 +16,7 @@ pub struct Place {
 }
 
 // The table expects only the first three; the others are answers that agree with no case.
-#[derive(Clone, Copy, PartialEq)]
+#[derive(Clone, Copy, PartialEq, Eq)]
 pub enum Answer {
     Read,
     Sized,
@@ -26,41 +26,51 @@ pub enum Answer {
 }
 
 impl Answer {
-    // What the library says of some bytes.
-    pub(crate) fn of(heap: Global, trial: Trial, bytes: &[u8]) -> Answer
-        ensures { Told trial bytes.now result }
+    // What the library says of some bytes: of the ticket, and where a kind is named, of sizing it.
+    pub(crate) fn of(heap: Global, kind: Option<Kind>, bytes: &[u8]) -> Answer
+        ensures { Told kind bytes.now result }
     {
         match Reader::new(bytes).ticket(heap) {
-            Ok(ticket) => Answer::of_ticket(trial, ticket),
-            Err(Failure::Refused(fault)) => Answer::of_fault(fault),
+            Ok(ticket) => Answer::of_ticket(kind, ticket),
+            Err(Failure::Refused(fault)) => Answer::from(fault),
             Err(Failure::OutOfMemory) => Answer::OutOfMemory,
         }
     }
 
-    fn of_ticket(trial: Trial, ticket: Ticket) -> Answer
-        ensures { result ≡ ticket_answer trial (content ticket) }
+    fn of_ticket(kind: Option<Kind>, ticket: Ticket) -> Answer
+        ensures { result ≡ ticket_answer kind (content ticket) }
     {
-        match trial {
-            Trial::ReadOnly => Answer::Read,
-            Trial::SizedFor(kind) => match ticket.sized(kind.drifts()) {
-                Ok(_) => Answer::Sized,
-                Err(fault) => Answer::of_fault(fault),
-            },
+        let Some(kind) = kind else {
+            return Answer::Read;
+        };
+        match ticket.sized(kind.drifts()) {
+            Ok(_) => Answer::Sized,
+            Err(fault) => Answer::from(fault),
         }
     }
+}
 
-    fn of_fault(fault: Fault) -> Answer
-        ensures { result ≡ answer_of fault }
-    {
-        let place = Place {
-            number: u8::from(fault.refusal),
-            record: fault.record,
-            byte: fault.byte,
-        };
+impl From<Fault> for Answer {
+    ghost from_gives = { λ fault answer. answer ≡ answer_of fault };
+
+    fn from(fault: Fault) -> Answer {
+        let place = Place::from(fault);
         if is_given(fault.layer, place.number) {
             Answer::Refused(place)
         } else {
             Answer::OtherLayer(place)
+        }
+    }
+}
+
+impl From<Fault> for Place {
+    ghost from_gives = { λ fault place. place ≡ place_of fault };
+
+    fn from(fault: Fault) -> Place {
+        Place {
+            number: u8::from(fault.refusal),
+            record: fault.record,
+            byte: fault.byte,
         }
     }
 }
@@ -70,8 +80,8 @@ fn is_given(layer: Layer, number: u8) -> bool
     ensures { result ≡ is_given layer number }
 {
     match layer {
-        Layer::Reader => 1 <= number && number <= 8,
-        Layer::Sizing => 9 <= number && number <= 11,
+        Layer::Reader => (1..=8).contains(&number),
+        Layer::Sizing => (9..=11).contains(&number),
         Layer::Workspace => false,
     }
 }

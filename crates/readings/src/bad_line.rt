@@ -3,7 +3,7 @@ use std::alloc::{AllocError, AllocFailed};
 use std::fmt;
 use std::num::ParseIntError;
 
-#[derive(Clone, Copy)]
+#[derive(Clone, Copy, PartialEq, Eq)]
 pub enum BadLine {
     Fields,
     Digit,
@@ -33,14 +33,13 @@ impl<T: Drop> From<AllocFailed<T>> for BadLine {
 
 impl fmt::Display for BadLine {
     fn fmt<W: fmt::Write>(&self, f: &mut fmt::Formatter<W>) -> fmt::Result {
-        let text = match self {
+        f.write_str(match self {
             BadLine::Fields => "not of the form NAME | RECORDS | EXPECTED",
             BadLine::Digit => "not a hexadecimal digit",
             BadLine::HalfByte => "an odd number of digits",
             BadLine::Number => "not a number",
             BadLine::Expected => "not an answer that a case can expect",
             BadLine::OutOfMemory => "out of memory",
-        };
-        write!(f, "{text}")
+        })
     }
 }

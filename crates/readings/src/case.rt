@@ -16,16 +16,12 @@ pub struct Case<'a> {
 
 impl<'a> Case<'a> {
     pub(crate) fn from_line(heap: Global, line: &'a str) -> Result<Case<'a>, BadLine> {
-        let Some((name, rest)) = line.split_once('|') else {
-            return Err(BadLine::Fields);
-        };
-        let Some((records, expected)) = rest.split_once('|') else {
-            return Err(BadLine::Fields);
-        };
+        let (name, rest) = line.split_once('|').ok_or(BadLine::Fields)?;
+        let (records, expected) = rest.split_once('|').ok_or(BadLine::Fields)?;
         Ok(Case {
             name: name.trim(),
             bytes: all_bytes(heap, records)?,
-            expected: Expected::from_field(expected)?,
+            expected: Expected::from_field(heap, expected)?,
         })
     }
 }
@@ -41,12 +37,10 @@ fn all_bytes(heap: Global, records: &str) -> Result<Vec<u8>, BadLine> {
 
 // Adds the bytes of a word such as 0201, or of 0201*3 three times.
 fn add_word(heap: Global, word: &str, bytes: &mut Vec<u8>) -> Result<(), BadLine> {
-    let (digits, count) = match word.split_once('*') {
-        Some((digits, count)) => (digits, count.parse::<u16>()?),
-        None => (word, 1),
-    };
+    let (digits, count) = word.split_once('*').unwrap_or((word, "1"));
+    let count = count.parse::<u16>()?;
     let once = hex_bytes(heap, digits)?;
-    add_copies(bytes, once.as_slice(), count)?;
+    add_copies(bytes, &once, count)?;
     Ok(())
 }
 

@@ -10,12 +10,7 @@ use std::alloc::Global;
 fn digit(b: u8) -> Option<u8>
     ensures { result ≡ value_of b }
 {
-    match b {
-        b'0'..=b'9' => Some(b - b'0'),
-        b'A'..=b'F' => Some(b - b'A' + 10),
-        b'a'..=b'f' => Some(b - b'a' + 10),
-        _ => None,
-    }
+    char::from(b).to_digit(16).map(|value| value as u8)
 }
 
 // The byte that two digits write.
@@ -35,9 +30,5 @@ fn byte(pair: &[u8]) -> Result<u8, BadLine>
 pub(crate) fn hex_bytes(heap: Global, digits: &str) -> Result<Vec<u8>, BadLine>
     ensures { IfOk result (λ v. bytes_of digits.now ≡ Some v.items) }
 {
-    let mut bytes = Vec::new(heap);
-    for pair in digits.as_bytes().chunks(2) {
-        bytes.push(byte(pair)?)?;
-    }
-    Ok(bytes)
+    digits.as_bytes().chunks(2).map(byte).try_collect(heap)
 }

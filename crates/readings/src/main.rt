@@ -9,8 +9,8 @@ mod bad_line;
 mod case;
 mod expected;
 mod hex;
+mod kind;
 mod tally;
-mod trial;
 
 use answer::Answer;
 use case::Case;
@@ -23,10 +23,7 @@ use tally::Tally;
 fn is_case(line: &str) -> bool
     ensures { result ≡ is_case line.now }
 {
-    match line.as_bytes() {
-        [] | [b'#', ..] => false,
-        _ => true,
-    }
+    !matches!(line.as_bytes(), [] | [b'#', ..])
 }
 
 // Prints how one line of the table turned out, and answers whether it agrees.
@@ -39,7 +36,7 @@ fn try_line(rt: &impl Print, heap: Global, line: &str) -> io::Result<bool> {
         }
     };
     let name = case.name;
-    let got = Answer::of(heap, case.expected.trial, case.bytes.as_slice());
+    let got = Answer::of(heap, case.expected.kind, &case.bytes);
     let agrees = got == case.expected.answer;
     if agrees {
         println!(rt; "ok {name}")?;

@@ -1,9 +1,10 @@
 -- The coordinates so far are written.
-use Rattle.std.proofs.Common.{map, take}
+use Rattle.std.proofs.Common.{◌∷◌, take}
 use Rattle.std.specs.Fmt.{IsPlainFormatter, HasWritten}
-use Rattle.orders.specs.Answers.{means, coordinates_text}
+use Rattle.std.specs.List.{flat_map}
+use Rattle.orders.specs.Answers.{means, coordinate_text}
 use Rattle.orders.proofs.answer.CoordinatesDisplay.fmt.Given as goal
 
 abbrev pub invariant-loop-x : goal.invariant-loop-x
 invariant-loop-x g l =
-    IsPlainFormatter l.initial.f → HasWritten g.W.Write.write_str_gives l.initial.f (coordinates_text (map means (take l.x-index l.self.0.now))) l.f
+    IsPlainFormatter l.initial.f → HasWritten g.W.Write.write_str_gives l.initial.f (flat_map (λ x. 32 ∷ coordinate_text (means x)) (take l.x-index l.self.0.now)) l.f

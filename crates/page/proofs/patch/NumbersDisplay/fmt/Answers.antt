@@ -1,18 +1,14 @@
--- Each turn writes the next number.
-use Rattle.std.proofs.Common.{◌+◌, eqb, ◌++◌, drop, sym, refl, ap, ◌∙◌}
-use Rattle.page.specs.Text.{listed_text, numbered}
-use Rattle.page.proofs.SoFar.{so_far_more, so_far_all, numbered_more, numbered_all}
+-- The first number and those behind it are the whole list.
+use Rattle.std.proofs.Common.{true, rules}
+use Rattle.std.specs.Fmt.{HasWritten}
+use Rattle.std.proofs.Output.{has_written_append, has_written_of_eq}
+use Rattle.page.specs.Text.{listed_text}
+use Rattle.page.proofs.Behind.{listed}
 use Rattle.page.proofs.patch.NumbersDisplay.fmt.Goals as goal
-
-pub loop-place-preserved : goal.loop-place-preserved
-loop-place-preserved g c = λ plain.
-    let s = c.loop-place.invariant plain in
-    let xs = c.args.self.now.0.now in
-    let i = c.loop-place.place in
-    so_far_more g.W.Write.write_str_gives c.args.f.now c.loop-place.f c.write.new.self _ _ _ _ s
-    (numbered_more (λ n x. listed_text (eqb n 0) x) xs i c.x-item.result c.loop-place-test.true ∙ ap (λ x. listed_text (eqb i 0) x ++ numbered (λ n x. listed_text (eqb n 0) x) (i + 1) (drop (i + 1) xs)) (sym c.x-item.is))
-    (c.in_ok-write.ensures.writes s.put.plain refl)
 
 pub returns-clause-writes : goal.returns-clause-writes
 returns-clause-writes g c = λ plain ok.
-    so_far_all g.W.Write.write_str_gives c.args.f.now c.loop-place.f _ _ (c.loop-place.invariant plain) (numbered_all (λ n x. listed_text (eqb n 0) x) c.args.self.now.0.now c.loop-place.place c.loop-place-test.false)
+    let first : HasWritten g.W.Write.write_str_gives c.args.f.now (listed_text true c.in-Some.first.now) c.write.new.self = search rules in
+    has_written_of_eq _ _ _ _ _
+    (listed listed_text c.args.self.now.0.now c.in-Some.rest.now c.in-Some.first.now c.loop-number.number-index c.in-Some.ensures.cases.0 c.loop-number-test.false)
+    (has_written_append _ _ _ _ _ _ first (c.loop-number.invariant first.plain))

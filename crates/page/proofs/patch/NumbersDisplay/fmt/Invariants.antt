@@ -1,10 +1,10 @@
--- What is written and what is left make the whole.
-use Rattle.std.proofs.Common.{eqb, drop}
-use Rattle.std.specs.Fmt.{IsPlainFormatter}
-use Rattle.page.proofs.SoFar.{SoFar}
-use Rattle.page.specs.Text.{listed_text, numbered, numbers_text}
+-- The numbers so far are written.
+use Rattle.std.proofs.Common.{false, take}
+use Rattle.std.specs.Fmt.{IsPlainFormatter, HasWritten}
+use Rattle.std.specs.List.{flat_map}
+use Rattle.page.specs.Text.{listed_text}
 use Rattle.page.proofs.patch.NumbersDisplay.fmt.Given as goal
 
-abbrev pub invariant-loop-place : goal.invariant-loop-place
-invariant-loop-place g l =
-    IsPlainFormatter l.initial.f → SoFar g.W.Write.write_str_gives l.initial.f l.f (numbered (λ n x. listed_text (eqb n 0) x) l.place (drop l.place l.self.0.now)) (numbers_text l.self.0.now)
+abbrev pub invariant-loop-number : goal.invariant-loop-number
+invariant-loop-number g l =
+    IsPlainFormatter l.initial.f → HasWritten g.W.Write.write_str_gives l.initial.f (flat_map (listed_text false) (take l.number-index l.rest)) l.f
