@@ -1,9 +1,12 @@
 -- The table of waiting boxes, its newest record first.
-use Rattle.std.proofs.Common.{◌≡◌, ℕ, zero, suc, ◌+◌, ◌-◌, ◌<◌, ◌≤◌, List, [], ◌∷◌, length, get_or, set, refl, ap, ◌∙◌, ap₂, add-one, arith}
+use Rattle.std.proofs.Common.{◌≡◌, ℕ, zero, suc, ◌+◌, ◌-◌, ◌<◌, ◌≤◌, Bool, true, false, eqb, List, [], ◌∷◌, length, get_or, set, Some, None, Option, slice_get, sym, refl, ap, ◌∙◌, ap₂, add-one, arith}
 use Rattle.std.proofs.lemmas.List.{get_or-set_same, get_or-set_other}
+use Rattle.std.proofs.lemmas.Bool.{eqb-true}
+use Rattle.std.proofs.lemmas.Option.{slice_get_within, get_or_from_slice_get}
 use Rattle.ticket.specs.Sizes.{rest}
+use Rattle.search.proofs.Keeping.{void}
 use Rattle.case.specs.Records.{blank}
-use Rattle.case.specs.Held.{newest_first}
+use Rattle.case.specs.Held.{newest_first, newest_of}
 use Rattle.case.specs.declared.record.Record.{Record}
 
 pub as_many_newest : (n : ℕ) (rs : List Record) → length (newest_first n rs) ≡ n
@@ -33,3 +36,22 @@ changed_top_is_newest n rs r l k =
 pub newest_and_others : (rs : List Record) → 0 < length rs → rs ≡ get_or rs 0 blank ∷ rest rs
 newest_and_others [] l = absurd (omega arith)
 newest_and_others (r ∷ rs) l = refl
+
+pub waits_unless_empty : (n : ℕ) (empty : Bool) → empty ≡ eqb n 0 → empty ≡ false → 0 < n
+waits_unless_empty zero empty e f = absurd (void (cc))
+waits_unless_empty (suc n) empty e f = omega arith
+
+-- a box is on top
+module _ (rs : List Record) (top : Option Record) (r : Record) (is_top : top ≡ slice_get rs 0) (some : top ≡ Some r) where
+  pub one_waits : 0 < length rs
+  one_waits = slice_get_within rs 0 r (sym is_top ∙ some)
+
+  pub newest_is_top : r ≡ newest_of rs
+  newest_is_top = sym (get_or_from_slice_get rs 0 r blank (sym is_top ∙ some))
+
+pub none_on_top : (rs : List Record) → slice_get rs 0 ≡ None → length rs ≡ 0
+none_on_top [] e = refl
+none_on_top (r ∷ rs) e = absurd (void (cc))
+
+pub none_if_empty : (n : ℕ) (empty : Bool) → empty ≡ eqb n 0 → empty ≡ true → n ≡ 0
+none_if_empty n empty e t = eqb-true n 0 (sym e ∙ t)

@@ -2,15 +2,11 @@
 use Rattle.std.specs.Prelude.{ℕ, zero, suc, List, [], ◌∷◌, slice_index_or}
 use Rattle.case.specs.Records.{blank}
 use Rattle.case.specs.declared.record.Record.{Record}
-use Rattle.case.specs.declared.waiting.Waiting.{Waiting}
 
 abbrev pub newest_first : ℕ → List Record → List Record
 newest_first zero rs = []
 newest_first (suc n) rs = slice_index_or rs n blank ∷ newest_first n rs
 
-abbrev pub held : Waiting → List Record
-held w = newest_first w.len w.records
-
 -- the one that was put waiting last
-abbrev pub newest_of : Waiting → Record
-newest_of w = slice_index_or (held w) 0 blank
+abbrev pub newest_of : List Record → Record
+newest_of rs = slice_index_or rs 0 blank

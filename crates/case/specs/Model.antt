@@ -16,7 +16,7 @@ use Rattle.search.specs.Search.{Piece, half_of, Search, Outcome, too_large, spli
 use Rattle.search.specs.Calls.{Reply, ran, deepened, refused}
 use Rattle.search.specs.declared.call.CallRefusal.{CallRefusal}
 use Rattle.case.specs.Records.{box_of}
-use Rattle.case.specs.Held.{held, newest_of}
+use Rattle.case.specs.Held.{newest_of}
 use Rattle.case.specs.declared.record.Record.{Record}
 use Rattle.case.specs.declared.case.Case.{Case}
 
@@ -39,7 +39,7 @@ corner_in axes box corner = option_map (λ n. coordinates axes (box_of (length a
 abbrev pub model : {K : Type 0} → Case K → List Pair → Search
 model k work = record {
   depth = k.depth;
-  waiting = pieces (length (ticket_of k).axes) k.size (held k.waiting) work;
+  waiting = pieces (length (ticket_of k).axes) k.size k.waiting work;
   examined = k.examined;
   aside_depth = k.aside_depth;
   aside_range = k.aside_range;
@@ -52,7 +52,7 @@ newest_with k patch = record { box = box_of (length (ticket_of k).axes) (newest_
 
 -- where the newest patch begins
 abbrev pub newest_start : {K : Type 0} → Case K → ℕ
-newest_start k = (k.waiting.len - 1) * k.size
+newest_start k = (length k.waiting - 1) * k.size
 
 -- ---- what becomes of a case when its newest box was examined
 abbrev pub after_newest : Content → Search → List Piece → Outcome → Search

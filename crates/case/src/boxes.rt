@@ -1,8 +1,7 @@
 // Boxes as records: their levels, halves and ends.
 ghost use Rattle.std.specs.Prelude.{◌≡◌, ℕ, ◌^◌, ◌<◌, ◌≤◌, map, length, take, slice_index, slice_index_or};
-ghost use Rattle.algebra.specs.Form.{other as other_half};
 ghost use Rattle.patch.specs.Point.{sum_of};
-ghost use Rattle.patch.specs.Box.{half_place, ends_of as ends_of_part, box_ends as ends_of_box};
+ghost use Rattle.patch.specs.Box.{half_place, ends_of as ends_of_part, box_ends};
 ghost use Rattle.patch.specs.Corners.{ends_of};
 ghost use Rattle.case.specs.Records.{part_of, box_of, half_record};
 
@@ -11,25 +10,12 @@ use algebra::Half;
 use patch::Ends;
 use ticket::Axis;
 
-pub(crate) fn other(half: Half) -> Half
-    ensures { result ≡ other_half half }
-{
-    match half {
-        Half::Lower => Half::Upper,
-        Half::Upper => Half::Lower,
-    }
-}
-
 // How often a box was halved, from its halvings along each axis.
 pub(crate) fn level(halvings: &[u8]) -> u32
     requires { length halvings.now ≤ 4 }
     ensures { result ≡ sum_of halvings.now }
 {
-    let mut level: u32 = 0;
-    for h in halvings {
-        level += *h as u32;
-    }
-    level
+    halvings.iter().map(|h| u32::from(*h)).sum()
 }
 
 fn half_place(half: Half, place: u32) -> u32
@@ -44,16 +30,14 @@ fn half_place(half: Half, place: u32) -> u32
 
 impl Record {
     // The half along an axis.
-    pub(crate) fn half(self, axis: usize, half: Half) -> Record
+    pub(crate) fn half(mut self, axis: usize, half: Half) -> Record
         requires axis { (axis < length self.halvings) × (axis < length self.places) }
         requires room { (slice_index self.halvings axis < 255) × (slice_index self.places axis < 2 ^ 31) }
         ensures { result ≡ half_record half axis self }
     {
-        let mut halvings = self.halvings;
-        let mut places = self.places;
-        halvings[axis] += 1;
-        places[axis] = half_place(half, places[axis]);
-        Record { halvings, places }
+        self.halvings[axis] += 1;
+        self.places[axis] = half_place(half, self.places[axis]);
+        self
     }
 }
 
@@ -70,9 +54,9 @@ fn part_ends(axis: &Axis, halvings: u8, place: u32) -> Ends
 
 // The ends of a box, for each axis that there is.
 pub(crate) fn box_ends(axes: &[Axis], record: &Record) -> [Ends; 4]
-    requires few { (length axes.now ≤ length «record».now.halvings) × ((length axes.now ≤ length «record».now.places) × (length axes.now ≤ 4)) }
+    requires few { length axes.now ≤ 4 }
     requires shallow { (j : ℕ) → j < length axes.now → slice_index_or «record».now.halvings j 0 ≤ 24 }
-    ensures { map ends_of (take (length axes.now) result) ≡ ends_of_box axes.now (box_of (length axes.now) «record».now) }
+    ensures { map ends_of (take (length axes.now) result) ≡ box_ends axes.now (box_of (length axes.now) «record».now) }
 {
     let closed = Ends {
         lower_closed: true,

@@ -1,7 +1,6 @@
 // A case: a ticket, and where its search stands.
 ghost use Rattle.std.specs.Prelude.{◌≡◌, ◌≤◌, length, take};
 ghost use Rattle.ticket.specs.Sizes.{degrees_of, patch_count};
-ghost use Rattle.case.specs.Held.{held};
 ghost use Rattle.case.specs.Sound.{Sound};
 
 use crate::record::Record;
@@ -28,5 +27,5 @@ pub struct Case<K> {
     ghost shaped: { take (length ticket.ticket.axes.items) degrees ≡ degrees_of ticket.ticket.axes.items },
     ghost sized: { size ≡ patch_count ticket.ticket.axes.items },
     ghost bounded: { depth ≤ 24 },
-    ghost sound: { ∥ Sound (length ticket.ticket.axes.items) depth (held waiting) examined aside_depth aside_range corner found ∥₁ },
+    ghost sound: { ∥ Sound (length ticket.ticket.axes.items) depth waiting examined aside_depth aside_range corner found ∥₁ },
 }

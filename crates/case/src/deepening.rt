@@ -1,5 +1,6 @@
 // Starting anew at a greater depth.
 ghost use Rattle.std.specs.Prelude.{◌≡◌, ◌≤◌, true, List, map, length, MatchResult};
+ghost use Rattle.std.specs.Result.{result_err};
 ghost use Rattle.algebra.specs.Pair.{Pair};
 ghost use Rattle.patch.specs.FirstPatch.{turned, first_patch, all_carried};
 ghost use Rattle.patch.specs.Halving.{part};
@@ -17,20 +18,19 @@ use search::{CallRefusal, Word};
 
 impl<K: Number> Case<K> {
     // The first refusal that applies to a deepening.
-    fn deepen_refusal(&self, depth: u32, length: usize) -> Option<CallRefusal>
-        ensures { (work : List Pair) → result ≡ refusal (ticket_of self.now) length (model self.now work) (Deepen depth) }
+    fn check_deepen(&self, depth: u32, length: usize) -> Result<(), CallRefusal>
+        ensures { (work : List Pair) → result_err result ≡ refusal (ticket_of self.now) length (model self.now work) (Deepen depth) }
     {
-        match self.word() {
-            Word::Open => {}
-            Word::Running | Word::Fails | Word::Holds => return Some(CallRefusal::NotOpen),
+        if self.word() != Word::Open {
+            return Err(CallRefusal::NotOpen);
         }
         if depth <= self.depth || depth > 24 {
-            return Some(CallRefusal::NotDeeper);
+            return Err(CallRefusal::NotDeeper);
         }
         if !self.has_room(length, depth) {
-            return Some(CallRefusal::Workspace);
+            return Err(CallRefusal::Workspace);
         }
-        None
+        Ok(())
     }
 
     // The whole box waits at this depth, and nothing is known of it: the search stands at its start as soon as the first patch is written.
@@ -62,13 +62,8 @@ impl<K: Number> Case<K> {
         ensures refused { MatchResult result (λ _. all_carried K.drifts (ticket_of self.old).terms ≡ true) (λ _. (self.new ≡ self.old) × (work.new ≡ work.old)) }
         ensures same { ticket_of self.new ≡ ticket_of self.old }
     {
-        match self.deepen_refusal(depth, work.len()) {
-            Some(why) => return Err(why),
-            None => {}
-        }
-        if !write_first_patch(&self.ticket, work) {
-            return Err(CallRefusal::Workspace);
-        }
+        self.check_deepen(depth, work.len())?;
+        write_first_patch(&self.ticket, work).map_err(|_| CallRefusal::Workspace)?;
         self.restart(depth);
         Ok(depth)
     }

@@ -1,5 +1,5 @@
 // What is known of a case so far.
-#[derive(Clone, Copy)]
+#[derive(Clone, Copy, Debug, PartialEq, Eq)]
 pub enum Word {
     // Boxes wait.
     Running,

@@ -1,14 +1,13 @@
-use Rattle.std.proofs.Common.{◌≡◌, ◌+◌, get_or, drop, arith}
-use Rattle.std.proofs.lemmas.List.{at_drop_more, at_drop_all}
+use Rattle.std.proofs.Common.{◌≡◌, ℕ, ◌+◌, List, [], ◌∷◌, sum, refl, ap, ◌∙◌, rules}
+use Rattle.std.proofs.lemmas.List.Sums.{sum_by-cons}
 use Rattle.patch.specs.Point.{sum_of}
 use Rattle.case.proofs.boxes.level.Goals as goal
 
-pub loop-h-preserved : goal.loop-h-preserved
-loop-h-preserved c =
-    let e : sum_of (drop c.loop-h.h-index c.args.halvings.now) ≡ get_or c.args.halvings.now c.loop-h.h-index 0 + sum_of (drop (c.loop-h.h-index + 1) c.args.halvings.now) = at_drop_more sum_of c.args.halvings.now c.loop-h.h-index 0 c.loop-h-test.true in
-    (omega arith, omega arith)
+added_up : (xs : List ℕ) → sum xs ≡ sum_of xs
+added_up [] = refl
+added_up (x ∷ xs) = sum_by-cons (λ x. x) x xs ∙ ap (λ n. x + n) (added_up xs)
 
 pub returns : goal.returns
 returns c =
-    let e : sum_of (drop c.loop-h.h-index c.args.halvings.now) ≡ 0 = at_drop_all sum_of c.args.halvings.now c.loop-h.h-index c.loop-h-test.false in
-    omega arith
+    let e : c.sum.result ≡ sum c.args.halvings.now = search rules in
+    e ∙ added_up c.args.halvings.now
