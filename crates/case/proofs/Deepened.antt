@@ -1,6 +1,6 @@
 -- A search that starts anew at a greater depth.
 use Rattle.std.proofs.Common.{◌≡◌, ℕ, ◌+◌, ◌≤◌, Bool, true, false, cond, not, ◌&&◌, ltb, leb, List, map, take, is_some, None, Ok, Err, Result, refl, ap, ◌∙◌, mul-le-mul_right, one-mul, arith}
-use Rattle.std.specs.Result.{is_ok, OnOk}
+use Rattle.std.specs.Result.{is_ok}
 use Rattle.std.proofs.lemmas.List.{take-map}
 use Rattle.std.proofs.lemmas.Bool.{and_parts, leb-true, le-leb}
 use Rattle.algebra.specs.Layout.{numbers}
@@ -49,7 +49,3 @@ module _ (c : Content) (len d : ℕ) (s : Search) (granted : None ≡ refusal c 
 
 pub first_patch_is_begun : {K : Type 0} (f : K → Pair) (c : Content) (size : ℕ) (old new : List K) → size ≡ patch_count c.axes → Begun f c old new → part 0 size (map f new) ≡ first_patch (turned c)
 first_patch_is_begun f c size old new e b = ap (λ n. take n (map f new)) e ∙ take-map f (patch_count c.axes) new ∙ b.first
-
-pub ok_holds : {T E : Type 0} (r : Result T E) (P : Type 0) → is_ok r ≡ true → OnOk r P → P
-ok_holds (Ok x) P e h = h
-ok_holds (Err y) P e h = absurd (void (cc))

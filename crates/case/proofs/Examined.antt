@@ -6,6 +6,7 @@ use Rattle.std.proofs.lemmas.Bool.{leb-true, le-leb, lt-ltb}
 use Rattle.algebra.specs.Pair.{Pair}
 use Rattle.algebra.specs.Layout.{numbers}
 use Rattle.algebra.specs.declared.half.Half.{Half}
+use Rattle.number.specs.declared.number.Number.{Ghosts}
 use Rattle.ticket.specs.Sizes.{degrees_of, patch_count}
 use Rattle.ticket.specs.WellFormed.{Content}
 use Rattle.ticket.specs.declared.records.Axis.{Axis}
@@ -41,7 +42,7 @@ newest_is_examined c limit μ s m size (r ∷ rs) work l =
     let z : suc (length rs) - 1 ≡ length rs = omega arith in
     ap (λ n. after_newest c s (pieces m size (r ∷ rs) work) (examine c limit μ s.depth (record { box = box_of m r; patch = part (n * size) size work }))) z
 
-module _ {K : Type 0} (k : Case K) (waits : 0 < length k.waiting) where
+module _ {K : Type 0} {N : Ghosts K} (k : Case K N) (waits : 0 < length k.waiting) where
   pub size_small : k.size ≤ 128
   size_small = omega (arith, k.sized, leb-true (patch_count (ticket_of k).axes) 128 k.ticket.few)
 
@@ -113,7 +114,7 @@ only_growth_is_asked limit ns j start size work l e h =
     ∙ ap (λ n. all_grow limit (get_or ns j 0) (part start n work)) (sym e)
 
 -- the newest patch is halved in the workspace, along one of the axes that are lent
-module _ {K : Type 0} (k : Case K) (waits : 0 < length k.waiting) (lent : List Axis) (all : lent ≡ (ticket_of k).axes) (n : ℕ) (count : n ≡ length k.waiting)
+module _ {K : Type 0} {N : Ghosts K} (k : Case K N) (waits : 0 < length k.waiting) (lent : List Axis) (all : lent ≡ (ticket_of k).axes) (n : ℕ) (count : n ≡ length k.waiting)
     (f : K → Pair) (work : List K) (room : (k.depth + 3) * k.size ≤ length work) (axis : ℕ) (inside : axis < axes k) where
   begins : (n - 1) * k.size ≡ newest_start k
   begins = ap (λ i. (i - 1) * k.size) count

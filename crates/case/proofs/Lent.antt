@@ -4,6 +4,7 @@ use Rattle.std.specs.Result.{is_ok}
 use Rattle.std.proofs.lemmas.Bool.{le-leb}
 use Rattle.std.proofs.Math.Seq.{take-append_seam}
 use Rattle.algebra.specs.Pair.{Pair}
+use Rattle.number.specs.declared.number.Number.{Ghosts}
 use Rattle.ticket.specs.Sizes.{degrees_of}
 use Rattle.ticket.specs.declared.records.Axis.{Axis}
 use Rattle.ticket.specs.declared.records.Relation.{Relation}
@@ -32,7 +33,7 @@ pub room_lets_write : (r : Result (Unit {0}) PatchRefusal) (items room : ℕ) �
 room_lets_write r items room e l = ap is_ok (e ∙ ap (λ b. cond b (Ok tt) (Err Room)) (le-leb items room l))
 
 -- ---- degrees, ends and halvings
-module _ {K : Type 0} (k : Case K) (lent : List Axis) (all : lent ≡ (ticket_of k).axes) where
+module _ {K : Type 0} {N : Ghosts K} (k : Case K N) (lent : List Axis) (all : lent ≡ (ticket_of k).axes) where
   as_many_lent : length lent ≡ axes k
   as_many_lent = omega (arith, ap length all)
 

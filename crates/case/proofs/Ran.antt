@@ -2,6 +2,7 @@
 use Rattle.std.proofs.Common.{◌≡◌, ℕ, zero, suc, ◌+◌, ◌-◌, ◌*◌, ◌<◌, ◌≤◌, Bool, true, false, cond, not, ◌&&◌, leb, List, [], ◌∷◌, length, is_some, Some, None, sym, refl, ap, ◌∙◌, arith}
 use Rattle.std.proofs.lemmas.Bool.{leb-true, le-leb}
 use Rattle.algebra.specs.Pair.{Pair}
+use Rattle.number.specs.declared.number.Number.{Ghosts}
 use Rattle.ticket.specs.Sizes.{patch_count}
 use Rattle.ticket.specs.WellFormed.{Content}
 use Rattle.chooser.specs.Choice.{Meaning}
@@ -41,7 +42,7 @@ may_be_run n a b =
     some (suc n) a = omega arith
 
 -- ---- boxes that wait
-module _ {K : Type 0} (k : Case K) (work : List Pair) where
+module _ {K : Type 0} {N : Ghosts K} (k : Case K N) (work : List Pair) where
   pub none_waits : length k.waiting ≡ 0 → (model k work).waiting ≡ []
   none_waits e = ap (λ n. pieces (axes k) k.size n work) (no_record k.waiting (omega arith))
     where
@@ -84,7 +85,7 @@ module _ (c : Content) (limit : ℕ) (μ : Meaning) where
   pub step_keeps_depth : (s t : Search) → t ≡ step c limit μ s → t.depth ≡ s.depth
   step_keeps_depth s t e = ap (λ x. x.depth) e ∙ steps_same_depth c limit μ 1 s
 
-  pub step_counts : {K : Type 0} (k : Case K) (work : List Pair) → 0 < length k.waiting → (step c limit μ (model k work)).examined ≡ k.examined + 1
+  pub step_counts : {K : Type 0} {N : Ghosts K} (k : Case K N) (work : List Pair) → 0 < length k.waiting → (step c limit μ (model k work)).examined ≡ k.examined + 1
   step_counts k work l = by_record k.waiting l
     where
       by_record : (rs : List Record) → 0 < length rs → (step_over c limit μ (model k work) (pieces (axes k) k.size rs work)).examined ≡ k.examined + 1
@@ -110,5 +111,5 @@ module _ (c : Content) (limit : ℕ) (μ : Meaning) where
         by_tests false b r e = absurd (void (cc))
 
 -- ---- the ceiling
-pub examined_within_ceiling : {K : Type 0} (k : Case K) → k.examined ≤ ceiling k.depth
+pub examined_within_ceiling : {K : Type 0} {N : Ghosts K} (k : Case K N) → k.examined ≤ ceiling k.depth
 examined_within_ceiling k = sound_within_ceiling (axes k) k.depth k.examined k.aside_depth k.aside_range k.waiting k.corner k.found k.sound

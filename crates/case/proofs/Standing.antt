@@ -3,6 +3,7 @@ use Rattle.std.proofs.Common.{◌≡◌, ℕ, suc, ◌+◌, ◌^◌, ◌<◌, �
 use Rattle.std.proofs.lemmas.Bool.{and_parts, leb-true}
 use Rattle.algebra.specs.Form.{other}
 use Rattle.algebra.specs.declared.half.Half.{Half}
+use Rattle.number.specs.declared.number.Number.{Ghosts}
 use Rattle.ticket.specs.Numbers.{is_depth}
 use Rattle.ticket.specs.Sizes.{rest}
 use Rattle.ticket.specs.WellFormed.{Content, Formed, all, axis_formed, term_formed}
@@ -25,7 +26,7 @@ module _ (c : Content) (formed : Formed c) where
   pub at_most_four_axes : length c.axes ≤ 4
   at_most_four_axes = leb-true (length c.axes) 4 (and_parts (leb 1 (length c.axes)) (leb (length c.axes) 4) axes_counted).1
 
-module _ {K : Type 0} (k : Case K) where
+module _ {K : Type 0} {N : Ghosts K} (k : Case K N) where
   abbrev pub axes : ℕ
   axes = length (ticket_of k).axes
 

@@ -1,6 +1,7 @@
 -- What a case tells of its search, whatever the workspace holds.
 use Rattle.std.proofs.Common.{◌≡◌, ℕ, suc, ◌+◌, ◌^◌, ◌<◌, List, [], ◌∷◌, length, refl, ap, arith}
 use Rattle.algebra.specs.Pair.{Pair}
+use Rattle.number.specs.declared.number.Number.{Ghosts}
 use Rattle.search.proofs.Bounds.{ceiling_below}
 use Rattle.case.specs.Model.{pieces, model}
 use Rattle.case.specs.declared.record.Record.{Record}
@@ -13,7 +14,7 @@ as_many_pieces : (m size : ℕ) (rs : List Record) (work : List Pair) → length
 as_many_pieces m size [] work = refl
 as_many_pieces m size (r ∷ rs) work = ap suc (as_many_pieces m size rs work)
 
-module _ {K : Type 0} (k : Case K) where
+module _ {K : Type 0} {N : Ghosts K} (k : Case K N) where
   pub as_many_wait : (work : List Pair) → length (model k work).waiting ≡ length k.waiting
   as_many_wait work = as_many_pieces (axes k) k.size k.waiting work
 

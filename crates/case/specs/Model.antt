@@ -5,6 +5,7 @@ use Rattle.algebra.specs.Pair.{Pair, pairs}
 use Rattle.algebra.specs.Form.{other}
 use Rattle.algebra.specs.Layout.{flat_half}
 use Rattle.algebra.specs.declared.half.Half.{Half}
+use Rattle.number.specs.declared.number.Number.{Ghosts}
 use Rattle.ticket.specs.Law.{content}
 use Rattle.ticket.specs.Sizes.{degrees_of}
 use Rattle.ticket.specs.WellFormed.{Content}
@@ -20,7 +21,7 @@ use Rattle.case.specs.Held.{newest_of}
 use Rattle.case.specs.declared.record.Record.{Record}
 use Rattle.case.specs.declared.case.Case.{Case}
 
-abbrev pub ticket_of : {K : Type 0} → Case K → Content
+abbrev pub ticket_of : {K : Type 0} {N : Ghosts K} → Case K N → Content
 ticket_of k = content k.ticket.ticket
 
 -- of m axes: the box of a record, with the patch in slot i of the workspace
@@ -36,7 +37,7 @@ pieces m size (r ∷ rs) work = piece_in m size r (length rs) work ∷ pieces m 
 abbrev pub corner_in : List Axis → Record → Option ℕ → Option (List Coordinate)
 corner_in axes box corner = option_map (λ n. coordinates axes (box_of (length axes) box) (corner_of (length axes) n)) corner
 
-abbrev pub model : {K : Type 0} → Case K → List Pair → Search
+abbrev pub model : {K : Type 0} {N : Ghosts K} → Case K N → List Pair → Search
 model k work = record {
   depth = k.depth;
   waiting = pieces (length (ticket_of k).axes) k.size k.waiting work;
@@ -47,11 +48,11 @@ model k work = record {
 }
 
 -- the newest box, with this patch
-abbrev pub newest_with : {K : Type 0} → Case K → List Pair → Piece
+abbrev pub newest_with : {K : Type 0} {N : Ghosts K} → Case K N → List Pair → Piece
 newest_with k patch = record { box = box_of (length (ticket_of k).axes) (newest_of k.waiting); patch = patch }
 
 -- where the newest patch begins
-abbrev pub newest_start : {K : Type 0} → Case K → ℕ
+abbrev pub newest_start : {K : Type 0} {N : Ghosts K} → Case K N → ℕ
 newest_start k = (length k.waiting - 1) * k.size
 
 -- ---- what becomes of a case when its newest box was examined
@@ -60,7 +61,7 @@ after_newest c s [] o = s
 after_newest c s (x ∷ xs) o = after c s x xs o
 
 -- whatever the workspace holds, which stays
-abbrev pub Becomes : {K : Type 0} → Case K → Outcome → Case K → Type 0
+abbrev pub Becomes : {K : Type 0} {N : Ghosts K} → Case K N → Outcome → Case K N → Type 0
 Becomes old o new = (work : List Pair) → model new work ≡ after_newest (ticket_of old) (model old work) (model old work).waiting o
 
 -- the patch from `start` on was halved in the workspace, the second half in its place and the first behind it
@@ -77,7 +78,7 @@ abbrev pub halves_or_aside : Bool → Content → Half → ℕ → Piece → Out
 halves_or_aside true c first j x = halves c first j x
 halves_or_aside false c first j x = too_large
 
-abbrev pub Splits : {K : Type 0} → Case K → ℕ → Half → Case K → Type 0
+abbrev pub Splits : {K : Type 0} {N : Ghosts K} → Case K N → ℕ → Half → Case K N → Type 0
 Splits old j first new =
     (before after : List Pair) → SideBySide (degrees_of (ticket_of old).axes) j first (newest_start old) old.size before after →
     model new after ≡ after_newest (ticket_of old) (model old before) (model old before).waiting (halves (ticket_of old) first j (newest_with old (part (newest_start old) old.size before)))

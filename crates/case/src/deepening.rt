@@ -1,8 +1,8 @@
 // Starting anew at a greater depth.
-ghost use Rattle.std.specs.Prelude.{◌≡◌, ◌≤◌, true, List, map, length, MatchResult};
+ghost use Rattle.std.specs.Prelude.{◌≡◌, ◌≤◌, List, map, length, OnErr};
 ghost use Rattle.std.specs.Result.{result_err};
 ghost use Rattle.algebra.specs.Pair.{Pair};
-ghost use Rattle.patch.specs.FirstPatch.{turned, first_patch, all_carried};
+ghost use Rattle.patch.specs.FirstPatch.{turned, first_patch};
 ghost use Rattle.patch.specs.Halving.{part};
 ghost use Rattle.chooser.specs.Choice.{Meaning};
 ghost use Rattle.search.specs.Search.{start};
@@ -54,16 +54,15 @@ impl<K: Number> Case<K> {
     }
 
     // Starts the search anew at a greater depth: the workspace then starts with the first patch, and its rest is free. It answers the
-    // depth. A refusal changes nothing. A kind of number that does not carry the ticket's drifts cannot hold its first patch: for such
-    // a case, which is never taken, nothing is promised but that the deepening is refused.
+    // depth. A refusal changes nothing.
     pub fn deepen(&mut self, depth: u32, work: &mut [K]) -> Result<u32, CallRefusal>
-        ensures answer { all_carried K.drifts (ticket_of self.old).terms ≡ true → (μ : Meaning) → deepen_reply result ≡ reply (ticket_of self.old) K.limit μ (length work.old) (model self.old (map K.means work.old)) (Deepen depth) }
-        ensures next { all_carried K.drifts (ticket_of self.old).terms ≡ true → (μ : Meaning) → model self.new (map K.means work.new) ≡ next (ticket_of self.old) K.limit μ (length work.old) (model self.old (map K.means work.old)) (Deepen depth) }
-        ensures refused { MatchResult result (λ _. all_carried K.drifts (ticket_of self.old).terms ≡ true) (λ _. (self.new ≡ self.old) × (work.new ≡ work.old)) }
+        ensures answer { (μ : Meaning) → deepen_reply result ≡ reply (ticket_of self.old) K.limit μ (length work.old) (model self.old (map K.means work.old)) (Deepen depth) }
+        ensures next { (μ : Meaning) → model self.new (map K.means work.new) ≡ next (ticket_of self.old) K.limit μ (length work.old) (model self.old (map K.means work.old)) (Deepen depth) }
+        ensures refused { OnErr result ((self.new ≡ self.old) × (work.new ≡ work.old)) }
         ensures same { ticket_of self.new ≡ ticket_of self.old }
     {
         self.check_deepen(depth, work.len())?;
-        write_first_patch(&self.ticket, work).map_err(|_| CallRefusal::Workspace)?;
+        write_first_patch(&self.ticket, work).unwrap();
         self.restart(depth);
         Ok(depth)
     }

@@ -37,7 +37,7 @@ fn ask<K: Number, C: Chooser>(
     ensures same { C.meaning chooser.new ≡ C.meaning chooser.old }
 {
     let mut signs = [Sign::Zero; 128];
-    let _ = write_signs(patch, &mut signs);
+    write_signs(patch, &mut signs).unwrap();
     chooser.choose(Question {
         degrees,
         halvings,

@@ -14,7 +14,7 @@ pub invariant_of-self : goal.invariant_of-self
 invariant_of-self g c =
     let k = c.args.self.now in
     let e : c.push.new.self ≡ whole_record ∷ [] = c.push.ensures ∙ ap (λ rs. whole_record ∷ rs) c.clear.ensures in
-    record { shaped = k.shaped; sized = k.sized; bounded = c.requires; sound = start_is_sound (ticket_of k).axes (few_axes k) c.args.depth c.push.new.self e }
+    record { shaped = k.shaped; sized = k.sized; bounded = c.requires; carried = k.carried; sound = start_is_sound (ticket_of k).axes (few_axes k) c.args.depth c.push.new.self e }
 
 pub returns : goal.returns
 returns g c =
