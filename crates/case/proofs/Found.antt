@@ -4,6 +4,7 @@ use lib.ListN.{length-map}
 use Rattle.std.specs.List.{range_with_len}
 use Rattle.std.specs.Option.{option_map}
 use Rattle.std.proofs.lemmas.Bool.{le-leb, eqb-false}
+use Rattle.algebra.specs.Form.{other}
 use Rattle.algebra.specs.declared.half.Half.{Half}
 use Rattle.ticket.specs.Sizes.{degrees_of}
 use Rattle.ticket.specs.WellFormed.{Content}
@@ -13,11 +14,19 @@ use Rattle.patch.specs.FirstPatch.{turned}
 use Rattle.patch.specs.Judging.{all_satisfy, corners, first_of, breaks, broken_corner}
 use Rattle.patch.proofs.BoxCorners.{rank_of_corner, corners_are_numbered}
 use Rattle.chooser.specs.Choice.{Meaning}
-use Rattle.search.specs.Search.{Piece, level, is_clear, violation, may_halve, question_of, settled, broken, too_deep, examine, judged, first_half, second_half}
+use Rattle.search.specs.Search.{Piece, level, is_clear, violation, may_halve, question_of, half_of, Outcome, settled, broken, too_deep, too_large, split, examine, judged, first_half, second_half}
 use Rattle.search.proofs.Keeping.{void}
 use Rattle.case.specs.Judgement.{found, judgement}
-use Rattle.case.specs.Model.{halves, halves_or_aside}
 use Rattle.case.specs.declared.judgement.Judgement.TheVariants.{Clear, Broken, Deep, Undecided}
+
+-- the halves are put waiting, the first above the other
+abbrev pub halves : Content → Half → ℕ → Piece → Outcome
+halves c first j x = split (half_of c first j x) (half_of c (other first) j x)
+
+-- or the box is set aside, where its numbers may not grow
+abbrev pub halves_or_aside : Bool → Content → Half → ℕ → Piece → Outcome
+halves_or_aside true c first j x = halves c first j x
+halves_or_aside false c first j x = too_large
 
 -- ---- by the answers
 broken_is_found : (v : Option (List Half)) (n : ℕ) (d : Bool) (a : ℕ × Half) → Some n ≡ option_map rank v → Broken n ≡ found false v d a

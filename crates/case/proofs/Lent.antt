@@ -1,7 +1,5 @@
 -- What is lent to the questions about the newest box, in the words of the search.
-use Rattle.std.proofs.Common.{◌≡◌, ℕ, ◌<◌, ◌≤◌, Bool, true, cond, List, map, length, take, Option, Ok, Err, Result, sym, ap, ◌∙◌, ap₂, arith}
-use Rattle.std.specs.Result.{is_ok}
-use Rattle.std.proofs.lemmas.Bool.{le-leb}
+use Rattle.std.proofs.Common.{◌≡◌, ℕ, Bool, true, List, map, length, take, Some, Option, slice_get, sym, ap, ◌∙◌, ap₂, arith}
 use Rattle.std.proofs.Math.Seq.{take-append_seam}
 use Rattle.algebra.specs.Pair.{Pair}
 use Rattle.number.specs.declared.number.Number.{Ghosts}
@@ -12,13 +10,10 @@ use Rattle.patch.specs.Box.{box_ends}
 use Rattle.patch.specs.Corners.{ends_of, lowest_broken}
 use Rattle.patch.specs.FirstPatch.{turned}
 use Rattle.patch.specs.Point.{sum_of}
-use Rattle.patch.specs.Writing.{written, writing}
-use Rattle.patch.specs.declared.refusal.PatchRefusal.{PatchRefusal}
-use Rattle.patch.specs.declared.refusal.PatchRefusal.TheVariants.{Room}
+use Rattle.patch.specs.Writing.{written}
 use Rattle.patch.specs.declared.ends.Ends.{Ends}
 use Rattle.search.specs.Search.{level, halvings_of}
 use Rattle.case.specs.Records.{box_of}
-use Rattle.case.specs.Held.{newest_of}
 use Rattle.case.specs.Model.{ticket_of}
 use Rattle.case.specs.declared.record.Record.{Record}
 use Rattle.case.specs.declared.case.Case.{Case}
@@ -29,9 +24,6 @@ use Rattle.case.proofs.Standing.{axes, few_axes, four_halvings}
 pub written_front : {X : Type 0} (r : Bool) (new old all : List X) (n : ℕ) → r ≡ true → all ≡ written r new old → n ≡ length new → take n all ≡ new
 written_front r new old all n t e l = ap₂ take l (e ∙ ap (λ b. written b new old) t) ∙ take-append_seam new _
 
-pub room_lets_write : (r : Result (Unit {0}) PatchRefusal) (items room : ℕ) → r ≡ writing items room → items ≤ room → is_ok r ≡ true
-room_lets_write r items room e l = ap is_ok (e ∙ ap (λ b. cond b (Ok tt) (Err Room)) (le-leb items room l))
-
 -- ---- degrees, ends and halvings
 module _ {K : Type 0} {N : Ghosts K} (k : Case K N) (lent : List Axis) (all : lent ≡ (ticket_of k).axes) where
   as_many_lent : length lent ≡ axes k
@@ -40,23 +32,17 @@ module _ {K : Type 0} {N : Ghosts K} (k : Case K N) (lent : List Axis) (all : le
   pub degrees_lent : take (length lent) k.degrees ≡ degrees_of (ticket_of k).axes
   degrees_lent = ap (λ n. take n k.degrees) as_many_lent ∙ k.shaped
 
-  module _ (waits : 0 < length k.waiting) (top : Record) (newest : top ≡ newest_of k.waiting) where
-    pub halvings_lent : take (length lent) top.halvings ≡ halvings_of (box_of (axes k) (newest_of k.waiting))
-    halvings_lent =
-        ap₂ (λ n r. take n r.halvings) as_many_lent newest
-        ∙ sym (parts_have_halvings (axes k) (newest_of k.waiting).halvings (newest_of k.waiting).places (omega (arith, few_axes k, four_halvings k waits)))
+  module _ (r : Record) (on_top : slice_get k.waiting 0 ≡ Some r) where
+    pub halvings_lent : take (length lent) r.halvings ≡ halvings_of (box_of (axes k) r)
+    halvings_lent = ap (λ n. take n r.halvings) as_many_lent ∙ sym (parts_have_halvings (axes k) r.halvings r.places (omega (arith, few_axes k, four_halvings k r on_top)))
 
-    pub level_lent : sum_of (take (length lent) top.halvings) ≡ level (box_of (axes k) (newest_of k.waiting))
+    pub level_lent : sum_of (take (length lent) r.halvings) ≡ level (box_of (axes k) r)
     level_lent = ap sum_of halvings_lent
 
-    ends_lent : (ends : List Ends) → map ends_of (take (length lent) ends) ≡ box_ends lent (box_of (length lent) top) →
-        map ends_of (take (length lent) ends) ≡ box_ends (ticket_of k).axes (box_of (axes k) (newest_of k.waiting))
-    ends_lent ends e = e ∙ ap₂ (λ xs r. box_ends xs (box_of (length xs) r)) all newest
-
-    pub lowest_lent : (relation : Relation) (ends : List Ends) (patch : List Pair) (number : Option ℕ) → relation ≡ (turned (ticket_of k)).relation →
-        map ends_of (take (length lent) ends) ≡ box_ends lent (box_of (length lent) top) →
-        number ≡ lowest_broken relation (take (length lent) k.degrees) (map ends_of (take (length lent) ends)) patch →
-        number ≡ lowest_broken (turned (ticket_of k)).relation (degrees_of (ticket_of k).axes) (box_ends (ticket_of k).axes (box_of (axes k) (newest_of k.waiting))) patch
-    lowest_lent relation ends patch number r e f =
-        f ∙ ap (λ x. lowest_broken x (take (length lent) k.degrees) (map ends_of (take (length lent) ends)) patch) r
-        ∙ ap₂ (λ ns es. lowest_broken (turned (ticket_of k)).relation ns es patch) degrees_lent (ends_lent ends e)
+  pub lowest_lent : (r : Record) (relation : Relation) (ends : List Ends) (patch : List Pair) (number : Option ℕ) → relation ≡ (turned (ticket_of k)).relation →
+      map ends_of (take (length lent) ends) ≡ box_ends lent (box_of (length lent) r) →
+      number ≡ lowest_broken relation (take (length lent) k.degrees) (map ends_of (take (length lent) ends)) patch →
+      number ≡ lowest_broken (turned (ticket_of k)).relation (degrees_of (ticket_of k).axes) (box_ends (ticket_of k).axes (box_of (axes k) r)) patch
+  lowest_lent r relation ends patch number q e f =
+      f ∙ ap (λ x. lowest_broken x (take (length lent) k.degrees) (map ends_of (take (length lent) ends)) patch) q
+      ∙ ap₂ (λ ns es. lowest_broken (turned (ticket_of k)).relation ns es patch) degrees_lent (e ∙ ap (λ xs. box_ends xs (box_of (length xs) r)) all)

@@ -11,7 +11,6 @@ use Rattle.search.specs.Calls.{ran, is_running, is_run, has_room, checked, refus
 use Rattle.search.specs.declared.word.Word.TheVariants.{Running}
 use Rattle.search.specs.declared.call.Call.TheVariants.{Run}
 use Rattle.search.specs.declared.call.CallRefusal.TheVariants.{Workspace, RunCount, NotRunning}
-use Rattle.search.specs.Courses.{ceiling}
 use Rattle.search.proofs.Bounds.{steps_same_depth}
 use Rattle.search.proofs.Keeping.{void}
 use Rattle.search.proofs.Replies.{run_examines}
@@ -19,7 +18,6 @@ use Rattle.search.proofs.Steps.{one_examined}
 use Rattle.case.specs.Model.{ticket_of, piece_in, pieces, model}
 use Rattle.case.specs.declared.record.Record.{Record}
 use Rattle.case.specs.declared.case.Case.{Case}
-use Rattle.case.proofs.Soundness.{sound_within_ceiling}
 use Rattle.case.proofs.Standing.{axes}
 
 -- ---- room
@@ -109,7 +107,3 @@ module _ (c : Content) (limit : ℕ) (μ : Meaning) where
         by_tests true true false e = absurd (void (cc))
         by_tests true false r e = absurd (void (cc))
         by_tests false b r e = absurd (void (cc))
-
--- ---- the ceiling
-pub examined_within_ceiling : {K : Type 0} {N : Ghosts K} (k : Case K N) → k.examined ≤ ceiling k.depth
-examined_within_ceiling k = sound_within_ceiling (axes k) k.depth k.examined k.aside_depth k.aside_range k.waiting k.corner k.found k.sound

@@ -6,9 +6,7 @@ use Rattle.search.proofs.Bounds.{ceiling_below}
 use Rattle.case.specs.Model.{pieces, model}
 use Rattle.case.specs.declared.record.Record.{Record}
 use Rattle.case.specs.declared.case.Case.{Case}
-use Rattle.case.proofs.Soundness.{few_set_aside}
-use Rattle.case.proofs.Standing.{axes}
-use Rattle.case.proofs.Ran.{examined_within_ceiling}
+use Rattle.case.proofs.Standing.{axes, few_set_aside, examined_within_ceiling}
 
 as_many_pieces : (m size : ℕ) (rs : List Record) (work : List Pair) → length (pieces m size rs work) ≡ length rs
 as_many_pieces m size [] work = refl
@@ -19,6 +17,4 @@ module _ {K : Type 0} {N : Ghosts K} (k : Case K N) where
   as_many_wait work = as_many_pieces (axes k) k.size k.waiting work
 
   pub few_aside : k.aside_depth + k.aside_range < 2 ^ 32
-  few_aside =
-      let a = few_set_aside (axes k) k.depth k.examined k.aside_depth k.aside_range k.waiting k.corner k.found k.sound in
-      omega (arith, examined_within_ceiling k, ceiling_below k.depth k.bounded)
+  few_aside = omega (arith, few_set_aside k, examined_within_ceiling k, ceiling_below k.depth k.bounded)

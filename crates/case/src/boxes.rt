@@ -31,7 +31,7 @@ fn half_place(half: Half, place: u32) -> u32
 impl Record {
     // The half along an axis.
     pub(crate) fn half(mut self, axis: usize, half: Half) -> Record
-        requires axis { (axis < length self.halvings) × (axis < length self.places) }
+        requires axis { axis < 4 }
         requires room { (slice_index self.halvings axis < 255) × (slice_index self.places axis < 2 ^ 31) }
         ensures { result ≡ half_record half axis self }
     {

@@ -2,7 +2,7 @@
 ghost use Rattle.std.specs.Prelude.{◌≡◌, ◌≤◌, map, length, slice_get};
 ghost use Rattle.patch.specs.FirstPatch.{turned_relation};
 ghost use Rattle.case.specs.Judgement.{told, judgement};
-ghost use Rattle.case.specs.Model.{ticket_of, newest_with};
+ghost use Rattle.case.specs.Model.{ticket_of, piece_of};
 
 use crate::boxes::{box_ends, level};
 use crate::case::Case;
@@ -56,7 +56,7 @@ impl<K: Number> Case<K> {
     ) -> Judgement
         requires top { slice_get self.now.waiting 0 ≡ Some newest }
         requires whole { length patch.now ≡ self.now.size }
-        ensures answer { result ≡ judgement (ticket_of self.now) (C.meaning chooser.old) self.now.depth (newest_with self.now (map K.means patch.now)) }
+        ensures answer { result ≡ judgement (ticket_of self.now) (C.meaning chooser.old) self.now.depth (piece_of (ticket_of self.now) newest (map K.means patch.now)) }
         ensures same { C.meaning chooser.new ≡ C.meaning chooser.old }
     {
         let relation = turned(self.ticket.ticket.relation);

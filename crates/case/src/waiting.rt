@@ -1,9 +1,8 @@
 // The boxes that wait.
 ghost use Rattle.std.specs.Prelude.{◌≡◌, ◌^◌, ◌<◌, ◌≤◌, [], ◌∷◌, length, ◌==◌, slice_get, slice_index};
-ghost use Rattle.algebra.specs.Form.{other};
+ghost use Rattle.std.specs.Option.{ForSome};
 ghost use Rattle.ticket.specs.Sizes.{rest};
-ghost use Rattle.case.specs.Records.{half_record};
-ghost use Rattle.case.specs.Held.{newest_of};
+ghost use Rattle.case.specs.Held.{newest_halved};
 
 use crate::record::Record;
 use algebra::Half;
@@ -75,9 +74,9 @@ impl Waiting {
     pub(crate) fn halve_top(&mut self, axis: usize, first: Half)
         requires some { 0 < length self.old }
         requires room { length self.old < 25 }
-        requires axis { (axis < length (newest_of self.old).halvings) × (axis < length (newest_of self.old).places) }
-        requires small { (slice_index (newest_of self.old).halvings axis < 255) × (slice_index (newest_of self.old).places axis < 2 ^ 31) }
-        ensures { self.new ≡ half_record first axis (newest_of self.old) ∷ half_record (other first) axis (newest_of self.old) ∷ rest self.old }
+        requires axis { axis < 4 }
+        requires small { ForSome (slice_get self.old 0) (λ top. (slice_index top.halvings axis < 255) × (slice_index top.places axis < 2 ^ 31)) }
+        ensures { self.new ≡ newest_halved first axis self.old }
     {
         let top = self.records[self.len - 1];
         self.records[self.len - 1] = top.half(axis, first.other());

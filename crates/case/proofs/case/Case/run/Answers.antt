@@ -3,7 +3,8 @@ use Rattle.search.proofs.Bounds.{steps_same_depth}
 use Rattle.search.proofs.Replies.{run_examines}
 use Rattle.search.specs.Courses.{ceiling}
 use Rattle.case.specs.Model.{ticket_of, model}
-use Rattle.case.proofs.Ran.{room_is_there, granted_reply, granted_next, granted_room, examined_within_ceiling}
+use Rattle.case.proofs.Ran.{room_is_there, granted_reply, granted_next, granted_room}
+use Rattle.case.proofs.Standing.{examined_within_ceiling}
 use Rattle.case.proofs.case.Case.run.Goals as goal
 
 pub examine_up_to-requires : goal.examine_up_to-requires
