@@ -24,7 +24,7 @@ use Rattle.case.specs.declared.case.Case.{Case}
 use Rattle.case.specs.declared.judgement.Judgement.{Judgement}
 use Rattle.case.specs.declared.judgement.Judgement.TheVariants.{Clear, Broken, Deep, Undecided}
 use Rattle.case.proofs.Pieces.{part_map, SideBySide, stand_side_by_side, halves_stand_first}
-use Rattle.case.proofs.Standing.{axes, few_axes, one_and_older, shallow, fewer_older_than_halvings, four_halvings, four_places}
+use Rattle.case.proofs.Standing.{axes, one_and_older, shallow, fewer_older_than_halvings}
 use Rattle.case.proofs.Lent.{degrees_lent}
 use Rattle.case.proofs.Found.{halves, halves_or_aside, clear_is_settled, broken_is_violated, deep_is_set_aside, Chosen, undecided_is_chosen}
 
@@ -127,7 +127,7 @@ module _ {K : Type 0} {N : Ghosts K} (k : Case K N) (r : Record) (on_top : slice
           split_steps rs new g h e =
               ap (λ xs. counted s (pieces (axes k) k.size xs new) k.aside_depth k.aside_range s.corner) (e ∙ ap (newest_halved first axis) (one_and_older k r on_top))
               ∙ ap (λ xs. counted s xs k.aside_depth k.aside_range s.corner)
-              (halves_stand_first (ticket_of k) (axes k) k.size r (rest k.waiting) axis first axis_inside (omega (arith, four_halvings k r on_top, axis_inside, few_axes k)) (omega (arith, four_places k r on_top, axis_inside, few_axes k)) (map f work) new side)
+              (halves_stand_first (ticket_of k) (axes k) k.size r (rest k.waiting) axis first (map f work) new side)
               ∙ stepped (halves (ticket_of k) first axis newest) (by_growth true g)
             where
               side : SideBySide ns axis first (length (rest k.waiting) * k.size) k.size (map f work) new

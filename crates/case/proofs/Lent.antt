@@ -1,5 +1,6 @@
 -- What is lent to the questions about the newest box, in the words of the search.
-use Rattle.std.proofs.Common.{◌≡◌, ℕ, Bool, true, List, map, length, take, Some, Option, slice_get, sym, ap, ◌∙◌, ap₂, arith}
+use Rattle.std.proofs.Common.{◌≡◌, ℕ, Bool, true, List, map, length, take, Option, sym, ap, ◌∙◌, ap₂, arith}
+use Rattle.std.proofs.lemmas.List.{take-map}
 use Rattle.std.proofs.Math.Seq.{take-append_seam}
 use Rattle.algebra.specs.Pair.{Pair}
 use Rattle.number.specs.declared.number.Number.{Ghosts}
@@ -9,16 +10,15 @@ use Rattle.ticket.specs.declared.records.Relation.{Relation}
 use Rattle.patch.specs.Box.{box_ends}
 use Rattle.patch.specs.Corners.{ends_of, lowest_broken}
 use Rattle.patch.specs.FirstPatch.{turned}
-use Rattle.patch.specs.Point.{sum_of}
 use Rattle.patch.specs.Writing.{written}
 use Rattle.patch.specs.declared.ends.Ends.{Ends}
-use Rattle.search.specs.Search.{level, halvings_of}
+use Rattle.search.specs.Search.{halvings_of}
 use Rattle.case.specs.Records.{box_of}
 use Rattle.case.specs.Model.{ticket_of}
 use Rattle.case.specs.declared.record.Record.{Record}
 use Rattle.case.specs.declared.case.Case.{Case}
-use Rattle.case.proofs.BoxOf.{parts_have_halvings}
-use Rattle.case.proofs.Standing.{axes, few_axes, four_halvings}
+use Rattle.case.proofs.EndsOfBox.{no_more_ends}
+use Rattle.case.proofs.Standing.{axes}
 
 -- ---- signs
 pub written_front : {X : Type 0} (r : Bool) (new old all : List X) (n : ℕ) → r ≡ true → all ≡ written r new old → n ≡ length new → take n all ≡ new
@@ -32,17 +32,13 @@ module _ {K : Type 0} {N : Ghosts K} (k : Case K N) (lent : List Axis) (all : le
   pub degrees_lent : take (length lent) k.degrees ≡ degrees_of (ticket_of k).axes
   degrees_lent = ap (λ n. take n k.degrees) as_many_lent ∙ k.shaped
 
-  module _ (r : Record) (on_top : slice_get k.waiting 0 ≡ Some r) where
-    pub halvings_lent : take (length lent) r.halvings ≡ halvings_of (box_of (axes k) r)
-    halvings_lent = ap (λ n. take n r.halvings) as_many_lent ∙ sym (parts_have_halvings (axes k) r.halvings r.places (omega (arith, few_axes k, four_halvings k r on_top)))
-
-    pub level_lent : sum_of (take (length lent) r.halvings) ≡ level (box_of (axes k) r)
-    level_lent = ap sum_of halvings_lent
+  pub halvings_lent : (r : Record) (halvings : List ℕ) → halvings ≡ halvings_of r → take (length lent) halvings ≡ halvings_of (box_of (axes k) r)
+  halvings_lent r halvings e = ap₂ take as_many_lent e ∙ take-map (λ p. p.halvings) (axes k) r
 
   pub lowest_lent : (r : Record) (relation : Relation) (ends : List Ends) (patch : List Pair) (number : Option ℕ) → relation ≡ (turned (ticket_of k)).relation →
-      map ends_of (take (length lent) ends) ≡ box_ends lent (box_of (length lent) r) →
+      map ends_of (take (length lent) ends) ≡ box_ends lent r →
       number ≡ lowest_broken relation (take (length lent) k.degrees) (map ends_of (take (length lent) ends)) patch →
       number ≡ lowest_broken (turned (ticket_of k)).relation (degrees_of (ticket_of k).axes) (box_ends (ticket_of k).axes (box_of (axes k) r)) patch
   lowest_lent r relation ends patch number q e f =
       f ∙ ap (λ x. lowest_broken x (take (length lent) k.degrees) (map ends_of (take (length lent) ends)) patch) q
-      ∙ ap₂ (λ ns es. lowest_broken (turned (ticket_of k)).relation ns es patch) degrees_lent (e ∙ ap (λ xs. box_ends xs (box_of (length xs) r)) all)
+      ∙ ap₂ (λ ns es. lowest_broken (turned (ticket_of k)).relation ns es patch) degrees_lent (e ∙ ap (λ xs. box_ends xs r) all ∙ sym (no_more_ends (ticket_of k).axes r))

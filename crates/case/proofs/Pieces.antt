@@ -7,12 +7,13 @@ use Rattle.algebra.specs.Layout.{flat_half, numbers}
 use Rattle.algebra.specs.declared.half.Half.{Half}
 use Rattle.ticket.specs.Sizes.{degrees_of}
 use Rattle.ticket.specs.WellFormed.{Content}
+use Rattle.patch.specs.Box.{half_box}
 use Rattle.patch.specs.Halving.{part, Halved}
 use Rattle.search.specs.Search.{Piece, half_of}
-use Rattle.case.specs.Records.{box_of, half_record}
+use Rattle.case.specs.Records.{box_of}
 use Rattle.case.specs.Model.{piece_in, pieces}
 use Rattle.case.specs.declared.record.Record.{Record}
-use Rattle.case.proofs.BoxOf.{half_record_has_half_box}
+use Rattle.case.proofs.BoxOf.{half_has_box}
 
 -- ---- a part of what a kind of number means
 pub part_map : {K : Type 0} (f : K → Pair) (start size : ℕ) (xs : List K) → part start size (map f xs) ≡ map f (part start size xs)
@@ -48,16 +49,16 @@ earlier_stay m size k (r ∷ rs) old new l e =
     ap₂ (λ p ps. record { box = box_of m r; patch = p } ∷ ps) same others
 
 -- ---- the newest piece is halved
-pub halves_stand_first : (c : Content) (m size : ℕ) (r : Record) (rs : List Record) (j : ℕ) (h : Half) → j < m → j < length r.halvings → j < length r.places → (old new : List Pair) →
+pub halves_stand_first : (c : Content) (m size : ℕ) (r : Record) (rs : List Record) (j : ℕ) (h : Half) (old new : List Pair) →
     SideBySide (degrees_of c.axes) j h (length rs * size) size old new →
-    pieces m size (half_record h j r ∷ half_record (other h) j r ∷ rs) new ≡ half_of c h j (piece_in m size r (length rs) old) ∷ half_of c (other h) j (piece_in m size r (length rs) old) ∷ pieces m size rs old
+    pieces m size (half_box h j r ∷ half_box (other h) j r ∷ rs) new ≡ half_of c h j (piece_in m size r (length rs) old) ∷ half_of c (other h) j (piece_in m size r (length rs) old) ∷ pieces m size rs old
 unfolding half_of
-halves_stand_first c m size r rs j h inside a b old new side =
+halves_stand_first c m size r rs j h old new side =
     let i : ℕ = length rs in
     let one : part (suc i * size) size new ≡ flat_half pairs h (degrees_of c.axes) j (part (i * size) size old) = ap (λ n. part n size new) (suc-mul i size) ∙ side.first_half in
     ap₂ ◌∷◌ (half_piece h (part (suc i * size) size new) one)
     (ap₂ ◌∷◌ (half_piece (other h) (part (i * size) size new) side.second_half) (earlier_stay m size i rs old new (omega arith) side.before))
   where
     half_piece : (t : Half) (patch : List Pair) → patch ≡ flat_half pairs t (degrees_of c.axes) j (part (length rs * size) size old) →
-        ◌≡◌ {A = Piece} (record { box = box_of m (half_record t j r); patch = patch }) (half_of c t j (piece_in m size r (length rs) old))
-    half_piece t patch e = ap₂ (λ x y. record { box = x; patch = y }) (half_record_has_half_box m t j r inside a b) e
+        ◌≡◌ {A = Piece} (record { box = box_of m (half_box t j r); patch = patch }) (half_of c t j (piece_in m size r (length rs) old))
+    half_piece t patch e = ap₂ (λ x y. record { box = x; patch = y }) (half_has_box m t j r) e

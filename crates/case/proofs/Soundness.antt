@@ -1,18 +1,18 @@
 -- What is sound about a case is kept, whatever becomes of its newest box.
-use Rattle.std.proofs.Common.{◌≡◌, ℕ, suc, ◌+◌, ◌-◌, ◌<◌, ◌≤◌, ◌⊎◌, List, [], ◌∷◌, Some, None, Option, sym, refl, ap, ◌∙◌, subst, inl, inr, arith, length-set}
+use Rattle.std.proofs.Common.{◌≡◌, ℕ, suc, ◌+◌, ◌-◌, ◌<◌, ◌≤◌, ◌⊎◌, List, [], ◌∷◌, length, Some, None, Option, sym, refl, ap, ◌∙◌, subst, inl, inr, arith}
 use Rattle.std.specs.List.{AllByRecursion}
 use Rattle.algebra.specs.Form.{other}
 use Rattle.algebra.specs.declared.half.Half.{Half}
 use Rattle.patch.specs.Box.{Placed, half_box}
-use Rattle.patch.proofs.Box.{half_is_placed}
+use Rattle.patch.proofs.Box.{half_is_placed, half_length}
 use Rattle.search.specs.Search.{level}
 use Rattle.search.proofs.Keeping.{void}
 use Rattle.search.proofs.Orderly.{full, full_some, Waits}
 use Rattle.search.proofs.Pieces.{half_level}
-use Rattle.case.specs.Records.{box_of, half_record}
-use Rattle.case.specs.Sound.{Four, Sound}
+use Rattle.case.specs.Records.{box_of}
+use Rattle.case.specs.Sound.{Sound}
 use Rattle.case.specs.declared.record.Record.{Record}
-use Rattle.case.proofs.BoxOf.{part_for_each, half_record_has_half_box}
+use Rattle.case.proofs.BoxOf.{half_has_box}
 
 -- ---- the newest box
 module _ (m d e a b : ℕ) (r : Record) (rs : List Record) (k : Option ℕ) (f : Record) (s : Sound m d (r ∷ rs) e a b k f) where
@@ -23,12 +23,10 @@ module _ (m d e a b : ℕ) (r : Record) (rs : List Record) (k : Option ℕ) (f :
   -- it leaves: its own cost, at least 1, is paid
   pub left_is_sound : (deep large : ℕ) → deep + large ≤ suc (a + b) → Sound m d rs (e + 1) deep large k f
   left_is_sound deep large h = record {
-    fours = s.fours.1;
     stacked = s.stacked.1;
     within = omega (arith, s.within, full_some (d - level (box_of m r)));
     aside = omega (arith, s.aside);
     uncornered = still_uncornered rs s.uncornered;
-    four = s.four;
     placed = s.placed;
   }
 
@@ -36,44 +34,34 @@ module _ (m d e a b : ℕ) (r : Record) (rs : List Record) (k : Option ℕ) (f :
   refuted_is_sound n =
       let w = s.stacked.0 in
       record {
-        fours = tt;
         stacked = tt;
         within = omega (arith, s.within, full_some (d - level (box_of m r)));
         aside = omega (arith, s.aside);
         uncornered = inl refl;
-        four = s.fours.0;
         placed = record { part_for_each = w.part_for_each; placed = w.placed; shallow = w.shallow; deep = omega arith };
       }
 
-  module _ (j : ℕ) (inside : j < m) (few : m ≤ 4) (shallow : level (box_of m r) < d) where
-    half_is_four : (h : Half) → Four (half_record h j r)
-    half_is_four h = record { halvings = length-set r.halvings j _ ∙ s.fours.0.halvings; places = length-set r.places j _ ∙ s.fours.0.places }
+  module _ (j : ℕ) (inside : j < m) (shallow : level (box_of m r) < d) where
+    half_has_level : (h : Half) → level (box_of m (half_box h j r)) ≡ suc (level (box_of m r))
+    half_has_level h = ap level (half_has_box m h j r) ∙ half_level h j (box_of m r) (omega (arith, s.stacked.0.part_for_each))
 
-    half_has_box : (h : Half) → box_of m (half_record h j r) ≡ half_box h j (box_of m r)
-    half_has_box h = half_record_has_half_box m h j r inside (omega (arith, s.fours.0.halvings)) (omega (arith, s.fours.0.places))
-
-    half_has_level : (h : Half) → level (box_of m (half_record h j r)) ≡ suc (level (box_of m r))
-    half_has_level h = ap level (half_has_box h) ∙ half_level h j (box_of m r) (omega (arith, part_for_each m r.halvings r.places))
-
-    half_waits : (h : Half) (older : ℕ) → older ≤ suc (level (box_of m r)) → Waits m d older (box_of m (half_record h j r))
+    half_waits : (h : Half) (older : ℕ) → older ≤ suc (level (box_of m r)) → Waits m d older (box_of m (half_box h j r))
     half_waits h older l = record {
-      part_for_each = part_for_each m (half_record h j r).halvings (half_record h j r).places;
-      placed = subst (AllByRecursion Placed) (sym (half_has_box h)) (half_is_placed h j (box_of m r) s.stacked.0.placed);
+      part_for_each = ap length (half_has_box m h j r) ∙ half_length h j (box_of m r) ∙ s.stacked.0.part_for_each;
+      placed = subst (AllByRecursion Placed) (sym (half_has_box m h j r)) (half_is_placed h j (box_of m r) s.stacked.0.placed);
       shallow = omega (arith, half_has_level h);
       deep = omega (arith, half_has_level h);
     }
 
-    pub halves_are_sound : (h : Half) → Sound m d (half_record h j r ∷ half_record (other h) j r ∷ rs) (e + 1) a b k f
+    pub halves_are_sound : (h : Half) → Sound m d (half_box h j r ∷ half_box (other h) j r ∷ rs) (e + 1) a b k f
     halves_are_sound h =
         let w = s.stacked.0 in
         let twice : full (d - level (box_of m r)) ≡ suc (full (d - suc (level (box_of m r))) + full (d - suc (level (box_of m r)))) =
         let z : d - level (box_of m r) ≡ suc (d - suc (level (box_of m r))) = omega arith in rw z in
         record {
-          fours = (half_is_four h, (half_is_four (other h), s.fours.1));
           stacked = (half_waits h _ (omega (arith, w.deep)), (half_waits (other h) _ (omega (arith, w.deep)), s.stacked.1));
           within = rw (half_has_level h, half_has_level (other h)) (omega (arith, s.within));
           aside = omega (arith, s.aside);
           uncornered = still_uncornered _ s.uncornered;
-          four = s.four;
           placed = s.placed;
         }

@@ -1,8 +1,7 @@
 -- What is known of a case, and of its newest box.
-use Rattle.std.proofs.Common.{◌≡◌, ℕ, suc, ◌+◌, ◌-◌, ◌^◌, ◌<◌, ◌≤◌, true, ◌&&◌, leb, List, [], ◌∷◌, length, get_or, Some, slice_get, sym, ap, ◌∙◌, subst, arith, pow_mono}
+use Rattle.std.proofs.Common.{◌≡◌, ℕ, suc, ◌+◌, ◌-◌, ◌^◌, ◌<◌, ◌≤◌, true, ◌&&◌, leb, List, [], ◌∷◌, length, Some, slice_get, sym, ap, ◌∙◌, subst, arith, pow_mono}
 use mathlib.Core.Logic.{∥∥₁_elim, ∥∥₁_map}
 use native.Mathlib.Bridge.{le_prop}
-use native.Mathlib.Nat.{ℕ_set}
 use lib.ListN.{length-map}
 use Rattle.std.proofs.lemmas.Bool.{and_parts, leb-true}
 use Rattle.algebra.specs.declared.half.Half.{Half}
@@ -20,7 +19,6 @@ use Rattle.case.specs.Sound.{Sound}
 use Rattle.case.specs.Model.{ticket_of}
 use Rattle.case.specs.declared.record.Record.{Record}
 use Rattle.case.specs.declared.case.Case.{Case}
-use Rattle.case.proofs.BoxOf.{halvings_within_level, placed_at}
 use Rattle.case.proofs.Newest.{newest_and_older}
 use Rattle.case.proofs.Soundness.{left_is_sound, refuted_is_sound, halves_are_sound}
 
@@ -75,20 +73,6 @@ module _ {K : Type 0} {N : Ghosts K} (k : Case K N) where
     pub fewer_older_than_halvings : length older ≤ level (box_of axes r)
     fewer_older_than_halvings = ∥∥₁_elim sound_on_top le_prop (λ t. omega (arith, t.stacked.0.deep, length-map older (box_of axes)))
 
-    pub four_halvings : length r.halvings ≡ 4
-    four_halvings = ∥∥₁_elim sound_on_top (ℕ_set _ _) (λ t. t.fours.0.halvings)
-
-    pub four_places : length r.places ≡ 4
-    four_places = ∥∥₁_elim sound_on_top (ℕ_set _ _) (λ t. t.fours.0.places)
-
-    pub halved_at_most_24 : (j : ℕ) → j < axes → get_or r.halvings j 0 ≤ 24
-    halved_at_most_24 j l = omega (arith, halvings_within_level axes r.halvings r.places j l, shallow, k.bounded)
-
-    pub place_may_double : (j : ℕ) → j < axes → get_or r.places j 0 < 2 ^ 31
-    place_may_double j l =
-        let p : get_or r.places j 0 < 2 ^ get_or r.halvings j 0 = ∥∥₁_elim sound_on_top le_prop (λ t. placed_at axes r.halvings r.places t.stacked.0.placed j l) in
-        omega (arith, pow_mono {i = get_or r.halvings j 0} {j = 24} (halved_at_most_24 j l))
-
     -- ---- it stays sound
     module _ (rs : List Record) where
       pub left_sound : (deep large : ℕ) → rs ≡ older → deep + large ≤ suc (k.aside_depth + k.aside_range) → ∥ Sound axes k.depth rs (k.examined + 1) deep large k.corner k.found ∥₁
@@ -104,4 +88,4 @@ module _ {K : Type 0} {N : Ghosts K} (k : Case K N) where
       pub split_sound : (j : ℕ) (h : Half) → j < axes → level (box_of axes r) < k.depth → rs ≡ newest_halved h j k.waiting → ∥ Sound axes k.depth rs (k.examined + 1) k.aside_depth k.aside_range k.corner k.found ∥₁
       split_sound j h inside deeper e =
           subst (λ xs. ∥ Sound axes k.depth xs (k.examined + 1) k.aside_depth k.aside_range k.corner k.found ∥₁) (sym (e ∙ ap (newest_halved h j) one_and_older))
-          (∥∥₁_map sound_on_top (λ t. halves_are_sound axes k.depth k.examined k.aside_depth k.aside_range r older k.corner k.found t j inside few_axes deeper h))
+          (∥∥₁_map sound_on_top (λ t. halves_are_sound axes k.depth k.examined k.aside_depth k.aside_range r older k.corner k.found t j inside deeper h))

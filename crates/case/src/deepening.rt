@@ -39,10 +39,7 @@ impl<K: Number> Case<K> {
         ensures starts { (work : List Pair) → part 0 self.old.size work ≡ first_patch (turned (ticket_of self.old)) → model self.new work ≡ start (ticket_of self.old) depth }
         ensures same { ticket_of self.new ≡ ticket_of self.old }
     {
-        let whole = Record {
-            halvings: [0; 4],
-            places: [0; 4],
-        };
+        let whole = Record::whole();
         self.depth = depth;
         self.waiting.clear();
         self.waiting.push(whole);

@@ -1,13 +1,12 @@
 // Judging the newest box of a case.
-ghost use Rattle.std.specs.Prelude.{◌≡◌, ◌≤◌, map, length, slice_get};
+ghost use Rattle.std.specs.Prelude.{◌≡◌, ◌≤◌, map, length};
 ghost use Rattle.patch.specs.FirstPatch.{turned_relation};
 ghost use Rattle.case.specs.Judgement.{told, judgement};
 ghost use Rattle.case.specs.Model.{ticket_of, piece_of};
 
-use crate::boxes::{box_ends, level};
 use crate::case::Case;
 use crate::judgement::Judgement;
-use crate::record::Record;
+use crate::record::{Record, level};
 use algebra::{Half, Sign};
 use chooser::{Chooser, Question};
 use number::Number;
@@ -54,8 +53,7 @@ impl<K: Number> Case<K> {
         patch: &[K],
         chooser: &mut C,
     ) -> Judgement
-        requires top { slice_get self.now.waiting 0 ≡ Some newest }
-        requires whole { length patch.now ≡ self.now.size }
+        requires { length patch.now ≡ self.now.size }
         ensures answer { result ≡ judgement (ticket_of self.now) (C.meaning chooser.old) self.now.depth (piece_of (ticket_of self.now) newest (map K.means patch.now)) }
         ensures same { C.meaning chooser.new ≡ C.meaning chooser.old }
     {
@@ -65,11 +63,12 @@ impl<K: Number> Case<K> {
         }
         let axes = self.ticket.ticket.axes.as_slice();
         let degrees = &self.degrees[..axes.len()];
-        let ends = box_ends(axes, &newest);
+        let ends = newest.ends(axes);
         if let Some(corner) = broken_corner(relation, degrees, &ends[..axes.len()], patch) {
             return Judgement::Broken(corner);
         }
-        let halvings = &newest.halvings[..axes.len()];
+        let halvings = newest.halvings();
+        let halvings = &halvings[..axes.len()];
         let level = level(halvings);
         if level == self.depth {
             return Judgement::Deep;

@@ -1,7 +1,8 @@
 // The boxes that wait.
-ghost use Rattle.std.specs.Prelude.{◌≡◌, ◌^◌, ◌<◌, ◌≤◌, [], ◌∷◌, length, ◌==◌, slice_get, slice_index};
+ghost use Rattle.std.specs.Prelude.{◌≡◌, ◌<◌, ◌≤◌, [], ◌∷◌, length, ◌==◌, slice_get, slice_index_or};
 ghost use Rattle.std.specs.Option.{ForSome};
 ghost use Rattle.ticket.specs.Sizes.{rest};
+ghost use Rattle.patch.specs.Box.{entire};
 ghost use Rattle.case.specs.Held.{newest_halved};
 
 use crate::record::Record;
@@ -19,6 +20,7 @@ pub(crate) struct Waiting {
 // Seen as the list of its boxes, the newest first.
 impl Model for Waiting {
     ghost use Rattle.std.specs.Prelude.{◌≤◌, List};
+    ghost use Rattle.patch.specs.Box.{entire};
     ghost use Rattle.case.specs.Held.{newest_first};
     ghost use Rattle.case.specs.declared.record.Record.{Record};
 
@@ -75,7 +77,7 @@ impl Waiting {
         requires some { 0 < length self.old }
         requires room { length self.old < 25 }
         requires axis { axis < 4 }
-        requires small { ForSome (slice_get self.old 0) (λ top. (slice_index top.halvings axis < 255) × (slice_index top.places axis < 2 ^ 31)) }
+        requires small { ForSome (slice_get self.old 0) (λ top. (slice_index_or top axis entire).halvings < 24) }
         ensures { self.new ≡ newest_halved first axis self.old }
     {
         let top = self.records[self.len - 1];

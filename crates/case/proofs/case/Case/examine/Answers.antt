@@ -1,8 +1,10 @@
-use Rattle.std.proofs.Common.{◌+◌, ◌-◌, ◌*◌, ◌^◌, ◌<◌, ◌≤◌, map, length, sym, ap, ◌∙◌, arith, rules}
+use Rattle.std.proofs.Common.{◌≡◌, ◌+◌, ◌-◌, ◌*◌, ◌^◌, ◌<◌, ◌≤◌, map, length, get_or, sym, ap, ◌∙◌, arith, rules}
+use Rattle.patch.specs.Box.{entire}
 use Rattle.search.proofs.Steps.{idle_steps}
 use Rattle.case.specs.Model.{ticket_of, model}
+use Rattle.case.proofs.BoxOf.{halvings_within_level}
 use Rattle.case.proofs.Newest.{none_on_top}
-use Rattle.case.proofs.Standing.{few_axes, one_and_older, fewer_older_than_halvings, examined_fits, aside_depth_fits, aside_range_fits, halved_at_most_24, place_may_double, left_sound, refuted_sound, split_sound}
+use Rattle.case.proofs.Standing.{axes, few_axes, one_and_older, fewer_older_than_halvings, examined_fits, aside_depth_fits, aside_range_fits, left_sound, refuted_sound, split_sound}
 use Rattle.case.proofs.Ran.{none_waits}
 use Rattle.case.proofs.Examined.{newest_ends_within, clear_steps, broken_steps, deep_steps, still_shallow, axis_inside, too_large_steps, split_steps}
 use Rattle.case.proofs.case.Case.examine.Goals as goal
@@ -84,7 +86,9 @@ halve_top-requires g c =
       some = omega (arith, ap length (one_and_older k c.in-Some.newest on_top));
       room = omega (arith, ap length (one_and_older k c.in-Some.newest on_top), fewer_older_than_halvings k c.in-Some.newest on_top, deeper, k.bounded);
       axis = omega (arith, inside, few_axes k);
-      small = λ top is. (omega (arith, halved_at_most_24 k top is c.in-Undecided.axis inside), place_may_double k top is c.in-Undecided.axis inside);
+      small = λ top is.
+          let same : top ≡ c.in-Some.newest = cc (is, on_top) in
+          omega (arith, halvings_within_level (axes k) c.in-Some.newest c.in-Undecided.axis inside, deeper, k.bounded, ap (λ x. (get_or x c.in-Undecided.axis entire).halvings) same);
     }
 
 pub invariant_of-self-in-Ok-clause-sound : goal.invariant_of-self-in-Ok-clause-sound

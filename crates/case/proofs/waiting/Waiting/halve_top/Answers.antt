@@ -1,5 +1,5 @@
 use Rattle.std.proofs.Common.{◌-◌, ◌<◌, ◌≤◌, ◌∷◌, length, get_or, set, ap, ◌∙◌, ap₂, rules, arith}
-use Rattle.case.specs.Records.{half_record, blank}
+use Rattle.patch.specs.Box.{half_box}
 use Rattle.case.specs.Held.{newest_first, newest_halved}
 use Rattle.case.proofs.Newest.{as_many_newest, top_halves}
 use Rattle.case.proofs.waiting.Waiting.halve_top.Goals as goal
@@ -14,6 +14,7 @@ returns c =
     let w = c.self.inside in
     let some : 0 < w.len = omega (arith, ap length c.self.view_is, as_many_newest w.len w.records) in
     let within : w.len ≤ length w.records = search rules in
-    let second = c.half.ensures ∙ ap (λ h. half_record h c.args.axis (get_or w.records (w.len - 1) blank)) c.other.ensures in
-    c.push.ensures ∙ ap₂ (λ r s. r ∷ newest_first w.len (set w.records (w.len - 1) s)) c.half-2.ensures second
-    ∙ top_halves w.len w.records c.args.first c.args.axis some within ∙ ap (newest_halved c.args.first c.args.axis) c.self.view_is
+    let r = get_or w.records (w.len - 1) c.index-self-self.result in
+    let second = c.half.ensures ∙ ap (λ h. half_box h c.args.axis r) c.other.ensures in
+    c.push.ensures ∙ ap₂ (λ x y. x ∷ newest_first w.len (set w.records (w.len - 1) y)) c.half-2.ensures second
+    ∙ top_halves w.len w.records c.index-self-self.result c.args.first c.args.axis some within ∙ ap (newest_halved c.args.first c.args.axis) c.self.view_is

@@ -1,7 +1,7 @@
 use Rattle.std.proofs.Common.{◌≡◌, ℕ, ◌+◌, List, [], ◌∷◌, sum, refl, ap, ◌∙◌, rules}
 use Rattle.std.proofs.lemmas.List.Sums.{sum_by-cons}
 use Rattle.patch.specs.Point.{sum_of}
-use Rattle.case.proofs.boxes.level.Goals as goal
+use Rattle.case.proofs.record.level.Goals as goal
 
 added_up : (xs : List ℕ) → sum xs ≡ sum_of xs
 added_up [] = refl
