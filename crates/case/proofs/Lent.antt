@@ -10,6 +10,7 @@ use Rattle.ticket.specs.declared.records.Relation.{Relation}
 use Rattle.patch.specs.Box.{box_ends}
 use Rattle.patch.specs.Corners.{ends_of, lowest_broken}
 use Rattle.patch.specs.FirstPatch.{turned}
+use Rattle.patch.specs.Judging.{all_satisfy}
 use Rattle.patch.specs.Writing.{written}
 use Rattle.patch.specs.declared.ends.Ends.{Ends}
 use Rattle.search.specs.Search.{halvings_of}
@@ -23,6 +24,10 @@ use Rattle.case.proofs.Standing.{axes}
 -- ---- signs
 pub written_front : {X : Type 0} (r : Bool) (new old all : List X) (n : ℕ) → r ≡ true → all ≡ written r new old → n ≡ length new → take n all ≡ new
 written_front r new old all n t e l = ap₂ take l (e ∙ ap (λ b. written b new old) t) ∙ take-append_seam new _
+
+-- ---- the relation
+pub turned_satisfies : (relation turned : Relation) (patch : List Pair) (result answer : Bool) → relation ≡ turned → result ≡ all_satisfy relation patch → result ≡ answer → all_satisfy turned patch ≡ answer
+turned_satisfies relation turned patch result answer q e f = sym (ap (λ r. all_satisfy r patch) q) ∙ sym e ∙ f
 
 -- ---- degrees, ends and halvings
 module _ {K : Type 0} {N : Ghosts K} (k : Case K N) (lent : List Axis) (all : lent ≡ (ticket_of k).axes) where

@@ -29,16 +29,6 @@ pub room_is_there : (c : Content) (len d : ℕ) → has_room c len d ≡ true �
 unfolding has_room
 room_is_there c len d e = leb-true ((d + 3) * patch_count c.axes) len e
 
--- ---- how many boxes a run may ask for
-pub may_be_run : (n : ℕ) → (n ≡ 0 → ⊥) → n ≤ 65535 → is_run n ≡ true
-may_be_run n a b =
-    let l : 1 ≤ n = omega (arith, some n a) in
-    ap (λ x. x && leb n 65535) (le-leb 1 n l) ∙ le-leb n 65535 b
-  where
-    some : (n : ℕ) → (n ≡ 0 → ⊥) → 1 ≤ n
-    some zero a = absurd (a refl)
-    some (suc n) a = omega arith
-
 -- ---- boxes that wait
 module _ {K : Type 0} {N : Ghosts K} (k : Case K N) (work : List Pair) where
   pub none_waits : length k.waiting ≡ 0 → (model k work).waiting ≡ []

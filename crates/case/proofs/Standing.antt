@@ -26,9 +26,6 @@ module _ (c : Content) (formed : Formed c) where
   axes_counted : (leb 1 (length c.axes) && leb (length c.axes) 4) ≡ true
   axes_counted = (and_parts (leb 1 (length c.axes) && leb (length c.axes) 4) (leb (length c.terms) 128 && (all axis_formed c.axes && (all (term_formed c.axes) c.terms && is_depth c.depth))) formed).0
 
-  pub some_axes : 1 ≤ length c.axes
-  some_axes = leb-true 1 (length c.axes) (and_parts (leb 1 (length c.axes)) (leb (length c.axes) 4) axes_counted).0
-
   pub at_most_four_axes : length c.axes ≤ 4
   at_most_four_axes = leb-true (length c.axes) 4 (and_parts (leb 1 (length c.axes)) (leb (length c.axes) 4) axes_counted).1
 

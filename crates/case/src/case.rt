@@ -11,7 +11,8 @@ use std::marker::PhantomData;
 use ticket::SizedTicket;
 
 // The patches of the waiting boxes stand in a workspace that is lent to each call, in the order of the boxes; here are the boxes
-// themselves and the counts. A failing case has the number of the corner that violates the relation, and the box of that corner.
+// themselves and the counts. A failing case has the number of the corner that violates the relation, and the box of that corner: a rule
+// of the project fixes that number as an option by itself.
 #[derive(Drop)]
 pub struct Case<K: Number> {
     pub(crate) ticket: SizedTicket,
