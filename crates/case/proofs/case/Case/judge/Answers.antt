@@ -3,7 +3,6 @@ use Rattle.std.proofs.lemmas.Bool.{eq-eqb, ne_eqb}
 use Rattle.ticket.specs.Sizes.{degrees_of}
 use Rattle.patch.specs.FirstPatch.{turned}
 use Rattle.patch.specs.Point.{sum_of}
-use Rattle.patch.specs.Judging.{all_satisfy}
 use Rattle.search.specs.Search.{level, halvings_of}
 use Rattle.case.specs.Records.{box_of}
 use Rattle.case.specs.Judgement.{told}
