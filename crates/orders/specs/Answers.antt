@@ -1,31 +1,13 @@
 -- What is printed of each answer.
-use Rattle.std.specs.Prelude.{ℕ, List, ◌∷◌, ◌++◌, codes, decimal}
+use Rattle.std.specs.Prelude.{ℕ, List, ◌∷◌, ◌++◌, map, codes, decimal}
 use Rattle.std.specs.Fmt.{signed_decimal}
 use Rattle.std.specs.List.{flat_map}
 use Rattle.patch.specs.Box.{Coordinate}
 use Rattle.search.specs.Calls.{Reply, ran, deepened, told, pointed, refused, refusal_number}
-use Rattle.search.specs.declared.verdict.Verdict.{Verdict}
-use Rattle.search.specs.declared.word.Word.{Word}
-use Rattle.search.specs.declared.word.Word.TheVariants.{Running, Fails, Holds, Open}
+use Rattle.search.specs.Text.{verdict_text}
+use Rattle.orders.specs.declared.answer.Answer.{Answer}
+use Rattle.orders.specs.declared.answer.Answer.TheVariants.{Ran, Deepened, Told, Pointed, Refused}
 use Rattle.orders.specs.declared.coordinate.Coordinate.{Coordinate as Held}
-
-abbrev pub word_text : Word → List ℕ
-word_text Running = codes "running"
-word_text Fails = codes "fails"
-word_text Holds = codes "holds"
-word_text Open = codes "open"
-
--- two words with one space between
-abbrev pub spaced : List ℕ → List ℕ → List ℕ
-spaced word rest = word ++ 32 ∷ rest
-
--- the word, and how many boxes were examined, wait, and were set aside for depth and for range
-abbrev pub verdict_text : Verdict → List ℕ
-verdict_text v =
-    spaced (word_text v.word)
-    (spaced (decimal v.examined)
-    (spaced (decimal v.waiting)
-    (spaced (decimal v.aside_depth) (decimal v.aside_range))))
 
 -- the coordinate that the code's struct holds
 abbrev pub means : Held → Coordinate
@@ -48,3 +30,11 @@ reply_text (deepened d) = codes "depth " ++ decimal d
 reply_text (told v) = verdict_text v
 reply_text (pointed xs) = codes "point" ++ coordinates_text xs
 reply_text (refused why) = no_text (refusal_number why)
+
+-- the line of each answer that the code holds: that of the reply that it stands for
+abbrev pub answer_text : Answer → List ℕ
+answer_text (Ran n) = reply_text (ran n)
+answer_text (Deepened d) = reply_text (deepened d)
+answer_text (Told v) = reply_text (told v)
+answer_text (Pointed xs) = reply_text (pointed (map means xs.now))
+answer_text (Refused n) = no_text n

@@ -1,5 +1,5 @@
 // A point on one axis: the numerator over 2^power.
-#[derive(Clone, Copy)]
+#[derive(Clone, Copy, Debug, PartialEq, Eq)]
 pub struct Coordinate {
     pub numerator: i64,
     pub power: u8,

@@ -3,7 +3,7 @@
 //     while let Some((line, rest)) = next_line(text) {
 //         match call(line) {
 //             Some(asked) => ..,
-//             None => println!(rt, "{}", No(OrderRefusal::Unreadable.number()))?,
+//             None => println!(rt; "{}", Answer::Refused(u8::from(OrderRefusal::Unreadable)))?,
 //         }
 //         text = rest;
 //     }
@@ -17,7 +17,7 @@ mod refusal;
 #[cfg(test)]
 mod tests;
 
-pub use answer::{Deepened, No, PointLine, Ran, VerdictLine, WordText};
+pub use answer::Answer;
 pub use coordinate::Coordinate;
 pub use lines::{MOST_BYTES, admit, next_line};
 pub use order::call;

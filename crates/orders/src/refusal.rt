@@ -2,21 +2,19 @@
 ghost use Rattle.std.specs.Prelude.{◌≡◌};
 ghost use Rattle.orders.specs.Refusals.{order_refusal_number};
 
-#[derive(Clone, Copy)]
+// Each case has its number in the table of refusals.
+#[derive(Clone, Copy, Debug, PartialEq, Eq)]
 pub enum OrderRefusal {
     // The line is no order.
-    Unreadable,
+    Unreadable = 19,
     // There are more bytes of orders than are read.
-    TooLong,
+    TooLong = 20,
 }
 
-impl OrderRefusal {
-    pub fn number(self) -> u8
-        ensures { result ≡ order_refusal_number self }
-    {
-        match self {
-            OrderRefusal::Unreadable => 19,
-            OrderRefusal::TooLong => 20,
-        }
+impl From<OrderRefusal> for u8 {
+    ghost from_gives = { λ refusal number. number ≡ order_refusal_number refusal };
+
+    fn from(refusal: OrderRefusal) -> u8 {
+        refusal as u8
     }
 }

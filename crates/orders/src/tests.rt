@@ -55,10 +55,10 @@ fn a_text_has_its_lines(rt: HostRuntime) {
 
 #[test]
 fn answers_are_shown(rt: HostRuntime) -> Result<(), Fail> {
-    let ran = Ran(65535);
-    let deepened = Deepened(24);
-    let no = No(OrderRefusal::Unreadable.number());
-    let point = PointLine(&[
+    let ran = Answer::Ran(65535);
+    let deepened = Answer::Deepened(24);
+    let no = Answer::Refused(u8::from(OrderRefusal::Unreadable));
+    let point = Answer::Pointed(&[
         Coordinate {
             numerator: -3,
             power: 0,
@@ -68,7 +68,7 @@ fn answers_are_shown(rt: HostRuntime) -> Result<(), Fail> {
             power: 2,
         },
     ]);
-    let verdict = VerdictLine(Verdict {
+    let verdict = Answer::Told(Verdict {
         word: Word::Open,
         examined: 7,
         waiting: 0,

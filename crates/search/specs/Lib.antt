@@ -3,3 +3,4 @@ pub mod Calls
 pub mod Courses
 pub mod Law
 pub mod Examples
+pub mod Text

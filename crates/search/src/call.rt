@@ -2,7 +2,7 @@
 ghost use Rattle.std.specs.Prelude.{◌≡◌};
 ghost use Rattle.search.specs.Calls.{refusal_number};
 
-#[derive(Clone, Copy)]
+#[derive(Clone, Copy, Debug, PartialEq, Eq)]
 pub enum Call {
     // Examine so many boxes.
     Run(u32),
@@ -13,27 +13,20 @@ pub enum Call {
 }
 
 // Each case has its number in the table of refusals.
-#[derive(Clone, Copy)]
+#[derive(Clone, Copy, Debug, PartialEq, Eq)]
 pub enum CallRefusal {
-    Workspace,
-    RunCount,
-    NotRunning,
-    NotOpen,
-    NotDeeper,
-    NoPoint,
+    Workspace = 12,
+    RunCount = 13,
+    NotRunning = 14,
+    NotOpen = 15,
+    NotDeeper = 16,
+    NoPoint = 17,
 }
 
-impl CallRefusal {
-    pub fn number(self) -> u8
-        ensures { result ≡ refusal_number self }
-    {
-        match self {
-            CallRefusal::Workspace => 12,
-            CallRefusal::RunCount => 13,
-            CallRefusal::NotRunning => 14,
-            CallRefusal::NotOpen => 15,
-            CallRefusal::NotDeeper => 16,
-            CallRefusal::NoPoint => 17,
-        }
+impl From<CallRefusal> for u8 {
+    ghost from_gives = { λ refusal number. number ≡ refusal_number refusal };
+
+    fn from(refusal: CallRefusal) -> u8 {
+        refusal as u8
     }
 }
