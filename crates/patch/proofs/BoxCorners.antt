@@ -1,74 +1,67 @@
 -- Corners, axis by axis, and their numbers.
-use Rattle.std.proofs.Common.{◌≡◌, ℕ, zero, suc, ◌+◌, ◌-◌, ◌*◌, ◌/◌, ◌%◌, ◌^◌, ◌<◌, ◌≤◌, Bool, true, false, cond, ◌&&◌, List, [], ◌∷◌, map, length, get_or, drop, Some, None, Option, sym, refl, ap, ◌∙◌, ap₂, ⊎_elim, mod-lt, mod-eq_of_lt, mul_assoc, mul_comm, add-mul, mul-le-mul_left, one-mul, mul-one, add-one, arith, pow_pos, pow_mono, pow-add}
+use Rattle.std.proofs.Common.{◌≡◌, ℕ, zero, suc, ◌+◌, ◌-◌, ◌*◌, ◌/◌, ◌%◌, ◌^◌, ◌<◌, ◌≤◌, Bool, true, false, cond, ◌&&◌, List, [], ◌∷◌, map, length, get_or, drop, Some, Option, sym, refl, ap, ◌∙◌, ap₂, ⊎_elim, mod-lt, mod-eq_of_lt, mul_assoc, mul_comm, add-mul, mul-le-mul_left, one-mul, mul-one, add-one, arith, pow_pos, pow_mono, pow-add}
+use Rattle.std.specs.List.{list_all, find, zip, range_with_len, AllByRecursion}
 use native.Mathlib.Nat.{pow-succ', add-mul-div_left, add-mul-mod_self_left, mod-one, div-eq_of_lt, div-eq_of_lt-le}
 use lib.Arith.{mod-mul}
 use Rattle.std.specs.Option.{option_map}
-use Rattle.std.proofs.lemmas.List.{drop_more, at_drop_more, at_drop_all, length-map, length-append, get_or-map, get_or_append_left, get_or-append_right}
+use Rattle.std.proofs.lemmas.List.{get_or_past, drop_more, at_drop_more, at_drop_all, length-map, length-append, get_or-map, get_or_append_left, get_or-append_right}
 use Rattle.std.proofs.lemmas.List.FromFn.{fill_by_all}
 use Rattle.std.proofs.lemmas.Bool.{cases_lt}
 use Rattle.algebra.specs.Form.{end_index, corner_index}
 use Rattle.algebra.specs.Layout.{numbers, place_of}
 use Rattle.algebra.specs.declared.half.Half.{Half}
 use Rattle.algebra.specs.declared.half.Half.TheVariants.{Lower, Upper}
-use Rattle.patch.specs.Judging.{Ends, closed, corner_inside, corners, first_of}
-use Rattle.patch.specs.Corners.{digit, rank, end_of, corner_of, Numbered}
+use Rattle.patch.specs.Judging.{closed, corner_inside, corners}
+use Rattle.patch.specs.Corners.{ends_of, digit, rank, end_of, corner_of, Numbered}
+use Rattle.patch.specs.declared.ends.Ends.{Ends as Held}
 
--- ---- one axis more
-inside_none : (es : List Ends) → corner_inside es [] ≡ true
-inside_none [] = refl
-inside_none (e ∷ es) = refl
+-- ---- the ends that a corner uses
+length_corner : (m c : ℕ) → length (corner_of m c) ≡ m
+length_corner zero c = refl
+length_corner (suc m) c = ap suc (length_corner m c)
 
-module _ (es : List Ends) (m c j : ℕ) (all : Bool) (inv : corner_inside (drop j es) (corner_of (m - j) c) ≡ all) where
-  module _ (e : Ends) (l : j < length es) (k : j < m) where
-    inside_here : all ≡ (closed (end_of (c / 2 ^ (m - 1 - j) % 2)) (get_or es j e) && corner_inside (drop (j + 1) es) (corner_of (m - (j + 1)) c))
-    inside_here =
-        let a : m - j ≡ suc (m - 1 - j) = omega arith in
-        let b : m - 1 - j ≡ m - (j + 1) = omega arith in
-        sym inv ∙ ap₂ (λ ds n. corner_inside ds (corner_of n c)) (drop_more es j e l) a
-        ∙ ap (λ n. closed (end_of (c / 2 ^ (m - 1 - j) % 2)) (get_or es j e) && corner_inside (drop (j + 1) es) (corner_of n c)) b
+pub end_here : (m c j : ℕ) → j < m → get_or (corner_of m c) j Lower ≡ end_of (c / 2 ^ (m - 1 - j) % 2)
+end_here zero c j l = absurd (omega arith)
+end_here (suc m) c zero l = let e : m ≡ suc m - 1 - 0 = omega arith in ap (λ k. end_of (c / 2 ^ k % 2)) e
+end_here (suc m) c (suc j) l = let e : m - 1 - j ≡ suc m - 1 - suc j = omega arith in end_here m c j (omega arith) ∙ ap (λ k. end_of (c / 2 ^ k % 2)) e
 
-    pub inside_fails : closed (end_of (c / 2 ^ (m - 1 - j) % 2)) (get_or es j e) ≡ false → false ≡ all
-    inside_fails h = sym (inside_here ∙ ap (λ b. b && corner_inside (drop (j + 1) es) (corner_of (m - (j + 1)) c)) h)
+pub end_past : (m c j : ℕ) → m ≤ j → get_or (corner_of m c) j Lower ≡ Lower
+end_past m c j l = get_or_past (corner_of m c) j Lower (omega (arith, length_corner m c))
 
-    pub inside_more : closed (end_of (c / 2 ^ (m - 1 - j) % 2)) (get_or es j e) ≡ true → corner_inside (drop (j + 1) es) (corner_of (m - (j + 1)) c) ≡ all
-    inside_more h = sym (inside_here ∙ ap (λ b. b && corner_inside (drop (j + 1) es) (corner_of (m - (j + 1)) c)) h)
+inside_by_axis : (g : ℕ → Half) (es : List Held) (k n : ℕ) → list_all (λ p. closed (g p.1) (ends_of p.0)) (zip es (range_with_len k n)) ≡ corner_inside (map ends_of es) (map g (range_with_len k n))
+inside_by_axis g [] k n = refl
+inside_by_axis g (e ∷ es) k zero = refl
+inside_by_axis g (e ∷ es) k (suc n) = ap (λ b. closed (g k) (ends_of e) && b) (inside_by_axis g es (k + 1) n)
 
-  -- no axis is left, or nothing is said of those that are
-  pub inside_all : m ≤ j → true ≡ all
-  inside_all l = let z : 0 ≡ m - j = omega arith in sym (inside_none (drop j es)) ∙ ap (λ n. corner_inside (drop j es) (corner_of n c)) z ∙ inv
+-- each end beside its axis
+pub inside_is : (es : List Held) (m c : ℕ) → list_all (λ p. closed (get_or (corner_of m c) p.1 Lower) (ends_of p.0)) (zip es (range_with_len 0 m)) ≡ corner_inside (map ends_of es) (corner_of m c)
+inside_is es m c =
+    inside_by_axis (λ j. get_or (corner_of m c) j Lower) es 0 m
+    ∙ ap (corner_inside (map ends_of es)) (sym (fill_by_all (λ j. get_or (corner_of m c) j Lower) (corner_of m c) m Lower (length_corner m c) (λ j l. refl)))
 
-  pub inside_past : length es ≤ j → true ≡ all
-  inside_past l = sym (at_drop_all (λ ds. corner_inside ds (corner_of (m - j) c)) es j l) ∙ inv
+-- ---- where a corner stands, from axis j on
+abbrev pub corner_from : List ℕ → List Half → ℕ → ℕ
+corner_from ns hs j = place_of (drop j ns) (corner_index (drop j ns) (drop j hs))
 
--- where a corner stands, from axis j on
-abbrev pub corner_from : List ℕ → ℕ → ℕ → ℕ
-corner_from ns c j = place_of (drop j ns) (corner_index (drop j ns) (corner_of (length ns - j) c))
-
-pub corner_whole : (ns : List ℕ) (c : ℕ) → corner_from ns c 0 ≡ place_of ns (corner_index ns (corner_of (length ns) c))
-corner_whole ns c = let z : length ns - 0 ≡ length ns = omega arith in ap (λ m. place_of ns (corner_index ns (corner_of m c))) z
-
-corner_more : (ns : List ℕ) (c j : ℕ) → j < length ns → corner_from ns c j ≡ end_index (end_of (c / 2 ^ (length ns - 1 - j) % 2)) (get_or ns j 0) * numbers (drop (j + 1) ns) + corner_from ns c (j + 1)
-corner_more ns c j l =
-    let a : length ns - j ≡ suc (length ns - 1 - j) = omega arith in
-    let b : length ns - 1 - j ≡ length ns - (j + 1) = omega arith in
-    let h : Half = end_of (c / 2 ^ (length ns - 1 - j) % 2) in
-    ap₂ (λ ms n. place_of ms (corner_index ms (corner_of n c))) (drop_more ns j 0 l) a
-    ∙ ap (λ n. end_index h (get_or ns j 0) * numbers (drop (j + 1) ns) + place_of (drop (j + 1) ns) (corner_index (drop (j + 1) ns) (corner_of n c))) b
+corner_more : (ns : List ℕ) (hs : List Half) (j : ℕ) → j < length ns → j < length hs → corner_from ns hs j ≡ end_index (get_or hs j Lower) (get_or ns j 0) * numbers (drop (j + 1) ns) + corner_from ns hs (j + 1)
+corner_more ns hs j l k = ap₂ (λ ms gs. place_of ms (corner_index ms gs)) (drop_more ns j 0 l) (drop_more hs j Lower k)
 
 -- the places of the axes before j in front
-pub place_more : (ns : List ℕ) (c j p k all : ℕ) → j < length ns → p * numbers (drop j ns) + corner_from ns c j ≡ all →
-    k ≡ end_index (end_of (c / 2 ^ (length ns - 1 - j) % 2)) (get_or ns j 0) → (p * (get_or ns j 0 + 1) + k) * numbers (drop (j + 1) ns) + corner_from ns c (j + 1) ≡ all
-place_more ns c j p k all l inv e =
-    let n = get_or ns j 0 in
+pub place_more : (ns : List ℕ) (c j p k n all : ℕ) → j < length ns → n ≡ get_or ns j 0 → p * numbers (drop j ns) + corner_from ns (corner_of (length ns) c) j ≡ all →
+    k ≡ end_index (get_or (corner_of (length ns) c) j Lower) n → (p * (n + 1) + k) * numbers (drop (j + 1) ns) + corner_from ns (corner_of (length ns) c) (j + 1) ≡ all
+place_more ns c j p k n all l n-is inv e =
+    let hs = corner_of (length ns) c in
+    let h = get_or hs j Lower in
     let rest = numbers (drop (j + 1) ns) in
-    let a : numbers (drop j ns) ≡ suc n * rest = at_drop_more numbers ns j 0 l in
+    let a : numbers (drop j ns) ≡ suc n * rest = at_drop_more numbers ns j 0 l ∙ ap (λ n. suc n * rest) (sym n-is) in
     let b : (p * (n + 1) + k) * rest ≡ p * (suc n * rest) + k * rest = add-mul (p * (n + 1)) k rest ∙ ap (λ x. x + k * rest) (mul_assoc p (n + 1) rest ∙ ap (λ m. p * (m * rest)) (add-one n)) in
-    let d : k * rest ≡ end_index (end_of (c / 2 ^ (length ns - 1 - j) % 2)) n * rest = ap (λ k. k * rest) e in
-    omega (arith, corner_more ns c j l, ap (λ x. p * x) a, b, d, inv)
+    let d : k * rest ≡ end_index h n * rest = ap (λ k. k * rest) e in
+    let f : corner_from ns hs j ≡ end_index h n * rest + corner_from ns hs (j + 1) =
+    corner_more ns hs j l (omega (arith, length_corner (length ns) c)) ∙ ap (λ n. end_index h n * rest + corner_from ns hs (j + 1)) (sym n-is) in
+    omega (arith, f, ap (λ x. p * x) a, b, d, inv)
 
-pub place_all : (ns : List ℕ) (c j p all : ℕ) → length ns ≤ j → p * numbers (drop j ns) + corner_from ns c j ≡ all → p ≡ all
-place_all ns c j p all l inv =
-    omega (arith, at_drop_all (λ ms. p * numbers ms) ns j l, at_drop_all (λ ms. place_of ms (corner_index ms (corner_of (length ns - j) c))) ns j l, mul-one p, inv)
+pub place_all : (ns : List ℕ) (hs : List Half) (j p all : ℕ) → length ns ≤ j → p * numbers (drop j ns) + corner_from ns hs j ≡ all → p ≡ all
+place_all ns hs j p all l inv = omega (arith, at_drop_all (λ ms. p * numbers ms) ns j l, at_drop_all (λ ms. place_of ms (corner_index ms (drop j hs))) ns j l, mul-one p, inv)
 
 pub place_small : (p n k j : ℕ) → p < 256 ^ j → n < 256 → k ≤ n → p * (n + 1) + k < 256 ^ (j + 1)
 place_small p n k j a b l =
@@ -127,10 +120,6 @@ corner_at (suc m) c l =
     ∙ ap₂ (λ d cs. end_of (d % 2) ∷ cs) (sym one) (sym (corner_same r m m (omega arith)) ∙ ap (corner_of m) (sym e)))
     (cases_lt c (2 ^ m))
 
-length_corner : (m c : ℕ) → length (corner_of m c) ≡ m
-length_corner zero c = refl
-length_corner (suc m) c = ap suc (length_corner m c)
-
 digit_of_end : (d : ℕ) → d < 2 → digit (end_of d) ≡ d
 digit_of_end zero l = refl
 digit_of_end (suc d) l = omega arith
@@ -150,20 +139,20 @@ pub corners_are_numbered : (m : ℕ) → Numbered m
 corners_are_numbered m = record { listed = fill_by_all (corner_of m) (corners m) (2 ^ m) [] (length_corners m) (corner_at m); ranked = rank_of_corner m }
 
 -- ---- the first corner that a test accepts
-module _ (test : List Half → Bool) (m c : ℕ) (l : c < 2 ^ m) (all : Option ℕ) (inv : option_map rank (first_of test (drop c (corners m))) ≡ all) where
-  first_here : all ≡ option_map rank (cond (test (corner_of m c)) (Some (corner_of m c)) (first_of test (drop (c + 1) (corners m))))
-  first_here =
-      sym inv ∙ at_drop_more (λ cs. option_map rank (first_of test cs)) (corners m) c [] (omega (arith, length_corners m))
-      ∙ ap (λ h. option_map rank (cond (test h) (Some h) (first_of test (drop (c + 1) (corners m))))) (corner_at m c l)
+find_ranked : (test : List Half → Bool) (m : ℕ) (xs : List ℕ) → AllByRecursion (λ c. c < 2 ^ m) xs → find (λ c. test (corner_of m c)) xs ≡ option_map rank (find test (map (corner_of m) xs))
+find_ranked test m [] below = refl
+find_ranked test m (c ∷ xs) below = by_test (test (corner_of m c)) _ _ (find_ranked test m xs below.1)
+  where
+    by_test : (b : Bool) (r : Option ℕ) (q : Option (List Half)) → r ≡ option_map rank q → cond b (Some c) r ≡ option_map rank (cond b (Some (corner_of m c)) q)
+    by_test true r q e = ap Some (sym (rank_of_corner m c below.0))
+    by_test false r q e = e
 
-  pub first_found : test (corner_of m c) ≡ true → Some c ≡ all
-  first_found h = sym (first_here ∙ ap (λ b. option_map rank (cond b (Some (corner_of m c)) (first_of test (drop (c + 1) (corners m))))) h ∙ ap Some (rank_of_corner m c l))
+below_all : (k n m : ℕ) → k + n ≤ m → AllByRecursion (λ c. c < m) (range_with_len k n)
+below_all k zero m l = tt
+below_all k (suc n) m l = (omega arith, below_all (k + 1) n m (omega arith))
 
-  pub first_more : test (corner_of m c) ≡ false → option_map rank (first_of test (drop (c + 1) (corners m))) ≡ all
-  first_more h = sym (first_here ∙ ap (λ b. option_map rank (cond b (Some (corner_of m c)) (first_of test (drop (c + 1) (corners m))))) h)
-
-pub first_none : (test : List Half → Bool) (m c : ℕ) (all : Option ℕ) → 2 ^ m ≤ c → option_map rank (first_of test (drop c (corners m))) ≡ all → None ≡ all
-first_none test m c all l inv = sym (at_drop_all (λ cs. option_map rank (first_of test cs)) (corners m) c (omega (arith, length_corners m))) ∙ inv
+pub found_by_number : (test : List Half → Bool) (m : ℕ) → find (λ c. test (corner_of m c)) (range_with_len 0 (2 ^ m)) ≡ option_map rank (find test (corners m))
+found_by_number test m = find_ranked test m (range_with_len 0 (2 ^ m)) (below_all 0 (2 ^ m) (2 ^ m) (omega arith)) ∙ ap (λ cs. option_map rank (find test cs)) (sym (corners_are_numbered m).listed)
 
 -- the machine's count of the corners of four axes at most
 pub all_corners : (m : ℕ) → m ≤ 4 → 1 * 2 ^ m % 4294967296 ≡ 2 ^ m

@@ -13,10 +13,10 @@ pub mod Rows
 pub mod Counting
 pub mod Slots
 pub mod Stretches
-pub mod Tests
 pub mod Writing
 pub mod Table
 pub mod Words
+pub mod Powers
 pub mod Bounds
 pub mod Monomials
 pub mod Summing

@@ -1,8 +1,9 @@
 -- What a represented box tells: its halves are represented, a patch that satisfies the relation settles it inside, a corner that breaks it refutes it.
 use Rattle.std.proofs.Common.{◌≡◌, ℕ, zero, suc, ◌<◌, Bool, true, false, cond, not, List, [], ◌∷◌, ◌++◌, map, length, get_or, pos, is_some, Some, None, Option, sym, refl, ap, ◌∙◌, subst, arith}
 use lib.ListN.{length-map}
-use Rattle.std.specs.List.{AllByRecursion}
+use Rattle.std.specs.List.{find, AllByRecursion}
 use Rattle.std.proofs.lemmas.List.FromFn.{length-map-range_with_len}
+use Rattle.std.proofs.lemmas.List.Sums.{AllPass-from_list_all}
 use Rattle.std.proofs.lemmas.Bool.{and_parts, true≢false}
 use Rattle.algebra.specs.Module.{pow}
 use Rattle.algebra.specs.Form.{Axis as Distances, degrees, Index, toward, change, form, corner_index}
@@ -16,7 +17,7 @@ use Rattle.algebra.proofs.Form.{corner_shows_sign}
 use Rattle.algebra.proofs.Places.{place_below}
 use Rattle.algebra.proofs.Halves.{flat_half_evaluates}
 use Rattle.ticket.specs.WellFormed.{Content, Formed}
-use Rattle.patch.specs.Judging.{satisfies, every, all_satisfy, corner_inside, corners, corner_number, breaks, first_of, broken_corner}
+use Rattle.patch.specs.Judging.{satisfies, all_satisfy, corner_inside, corners, corner_number, breaks, broken_corner}
 use Rattle.patch.specs.Point.{Point, value_at, TrueAt}
 use Rattle.patch.specs.Box.{Box, Placed, half_box, box_ends, from_ends, BetweenEnds, factor, corner_point}
 use Rattle.patch.specs.FirstPatch.{turned}
@@ -67,12 +68,7 @@ module _ (c : Content) (box : Box) (b : List Pair) (formed : Formed c) (r : Repr
       ap (satisfies (turned c).relation) (sym (same_sign p))
       ∙ form_satisfies c.relation (from_ends c.axes box p) (patch pairs ns b) between
       (λ ks i. let k : place_of ns ks < numbers ns = place_below ns ks (subst (λ ms. Index ms ks) (same_degrees p) i) in
-      every_at (λ x. satisfies (turned c).relation (sign_of x)) b all (place_of ns ks) (omega (arith, k, r.number_for_each)))
-    where
-      every_at : (test : Pair → Bool) (xs : List Pair) → every test xs ≡ true → (i : ℕ) → i < length xs → test (get_or xs i pairs.nought) ≡ true
-      every_at test [] h i l = absurd (omega arith)
-      every_at test (x ∷ xs) h zero l = (and_parts (test x) (every test xs) h).0
-      every_at test (x ∷ xs) h (suc i) l = every_at test xs (and_parts (test x) (every test xs) h).1 i (omega arith)
+      AllPass-from_list_all (λ x. satisfies (turned c).relation (sign_of x)) b all (place_of ns ks) pairs.nought (omega (arith, k, r.number_for_each)))
 
 module _ (c : Content) (box : Box) (b : List Pair) (es : List Half) (formed : Formed c) (r : Represents (turned c) box b) (placed : AllByRecursion Placed box) (l : length es ≡ length c.axes) where
   abbrev corner : Point
@@ -94,7 +90,7 @@ module _ (c : Content) (box : Box) (b : List Pair) (es : List Half) (formed : Fo
       }
 
 -- ---- the corner that judging finds
-found : {X : Type 0} (test : X → Bool) (P : X → Type 0) (xs : List X) (y : X) → AllByRecursion P xs → first_of test xs ≡ Some y → (test y ≡ true) × P y
+found : {X : Type 0} (test : X → Bool) (P : X → Type 0) (xs : List X) (y : X) → AllByRecursion P xs → find test xs ≡ Some y → (test y ≡ true) × P y
 found test P [] y h e = absurd (true≢false (ap is_some (sym e)))
 found {X} test P (x ∷ xs) y h e = by_test (test x) refl (found test P xs y h.1) e
   where
@@ -102,7 +98,7 @@ found {X} test P (x ∷ xs) y h e = by_test (test x) refl (found test P xs y h.1
     known (Some z) = z
     known None = x
 
-    by_test : (b : Bool) → test x ≡ b → (first_of test xs ≡ Some y → (test y ≡ true) × P y) → cond b (Some x) (first_of test xs) ≡ Some y → (test y ≡ true) × P y
+    by_test : (b : Bool) → test x ≡ b → (find test xs ≡ Some y → (test y ≡ true) × P y) → cond b (Some x) (find test xs) ≡ Some y → (test y ≡ true) × P y
     by_test true t later e = let s : x ≡ y = ap known e in (ap test (sym s) ∙ t, subst P s h.0)
     by_test false t later e = later e
 

@@ -1,8 +1,7 @@
 -- The coefficient of a monomial as a loop over the axes multiplies it: no product on the way exceeds a word.
-use Rattle.std.proofs.Common.{◌≡◌, ℕ, suc, ◌+◌, ◌*◌, ◌/◌, ◌%◌, ◌^◌, ◌<◌, ◌≤◌, List, [], ◌∷◌, length, get_or, drop, ℤ, pos, ◌*ℤ◌, nat_abs, sym, refl, ap, ◌∙◌, subst, le_trans, le_refl, mod-lt, mul_assoc, mul_comm, mul-le-mul, mul-le-mul_left, mul-pos, one-mul, le-mul_of_pos_right, add-one, arith}
+use Rattle.std.proofs.Common.{◌≡◌, ℕ, suc, ◌+◌, ◌*◌, ◌/◌, ◌%◌, ◌^◌, ◌<◌, ◌≤◌, ◌⊎◌, ⊎_elim, List, [], ◌∷◌, length, get_or, ℤ, pos, ◌*ℤ◌, nat_abs, sym, refl, ap, ◌∙◌, subst, le_trans, le_refl, mod-lt, mul_assoc, mul_comm, mul-le-mul, mul-le-mul_left, mul-pos, one-mul, le-mul_of_pos_right, add-one, arith}
 use native.Mathlib.Nat.{mul-mul-mul_comm, one-le-pow, mul-div_cancel_left}
 use Rattle.std.specs.List.{AllByRecursion}
-use Rattle.std.proofs.lemmas.List.{drop_more, drop_all}
 use Rattle.std.proofs.lemmas.Int.{ints}
 use Rattle.algebra.specs.Bernstein.{of_power}
 use Rattle.algebra.specs.Layout.{numbers, index_of}
@@ -22,6 +21,7 @@ use Rattle.patch.proofs.Formed.{Sound, Fits, all_passed, axis_sound, exponents_f
 pub record ToCome (axes : List Axis) (es : List ℕ) (whole product : ℤ) (later left : ℕ) : Type 0 where
   pub sound : AllByRecursion Sound axes
   pub fit : Fits (degrees_of axes) es
+  pub long : length axes ≤ length es
   pub later_is : later ≡ numbers (degrees_of axes)
   pub inside : left < later
   pub gives : product *ℤ of_powers axes es (index_of (degrees_of axes) left) ≡ whole
@@ -61,7 +61,7 @@ module _ (a : Axis) (more : List Axis) (e : ℕ) (es : List ℕ) (whole product 
   pub later_after : later / (a.degree + 1) ≡ after
   later_after = ap (λ n. n / (a.degree + 1)) t.later_is ∙ ap (λ n. suc a.degree * after / n) (add-one a.degree) ∙ mul-div_cancel_left after {n = suc a.degree} (omega arith)
 
-  index_below : k ≤ a.degree
+  pub index_below : k ≤ a.degree
   index_below = (index_is_index (degrees_of (a ∷ more)) left (subst (λ n. left < n) t.later_is t.inside)).0
 
   others_positive : 0 < others
@@ -70,12 +70,11 @@ module _ (a : Axis) (more : List Axis) (e : ℕ) (es : List ℕ) (whole product 
   split_room : own * others ≤ word
   split_room = subst (λ n. n ≤ word) (sym (mul-mul-mul_comm (common a.degree) (reach a ^ e) (scale more) (power_reach more es))) t.room
 
-  pub convertible : Convertible a e k
+  pub convertible : Convertible a e
   convertible = record {
     some_degree = t.sound.0.some;
     degree = t.sound.0.small;
     exponent = t.fit 0;
-    place = index_below;
     room = le_trans (le-mul_of_pos_right own others_positive) split_room;
   }
 
@@ -93,6 +92,7 @@ module _ (a : Axis) (more : List Axis) (e : ℕ) (es : List ℕ) (whole product 
   next = record {
     sound = t.sound.1;
     fit = λ j. t.fit (suc j);
+    long = omega (arith, t.long);
     later_is = refl;
     inside = mod-lt left (numbers_positive (degrees_of more));
     gives = ring (product ∷ factor ∷ of_powers more es (index_of (degrees_of more) (left % after)) ∷ []) (x₀ ⊗ x₁ ⊗ x₂) (x₀ ⊗ (x₁ ⊗ x₂)) tt ∙ t.gives;
@@ -101,55 +101,56 @@ module _ (a : Axis) (more : List Axis) (e : ℕ) (es : List ℕ) (whole product 
   }
 
 -- ---- a turn of the loop over the axes, as the code computes it
-module _ (axes : List Axis) (es : List ℕ) (j : ℕ) (d : Axis) (l : j < length axes) (few : length axes ≤ length es) (whole product : ℤ) (later left : ℕ) (t : ToCome (drop j axes) (drop j es) whole product later left) (n : ℕ) (n-is : n ≡ (get_or axes j d).degree) where
-  abbrev here : Axis
-  here = get_or axes j d
+module _ {axes : List Axis} {es : List ℕ} (a : Axis) (more : List Axis) (e : ℕ) (rest_es : List ℕ) (first : axes ≡ a ∷ more) (second : es ≡ e ∷ rest_es)
+    (whole product : ℤ) (later left : ℕ) (t : ToCome axes es whole product later left) (n : ℕ) (n-is : n ≡ a.degree) where
+  opened : ToCome (a ∷ more) (e ∷ rest_es) whole product later left
+  opened = subst (λ xs. ToCome xs (e ∷ rest_es) whole product later left) first (subst (λ fs. ToCome axes fs whole product later left) second t)
 
-  abbrev there : List Axis
-  there = drop (j + 1) axes
-
-  abbrev exponent : ℕ
-  exponent = get_or es j 0
-
-  opened : ToCome (here ∷ there) (exponent ∷ drop (j + 1) es) whole product later left
-  opened = subst (λ xs. ToCome xs (exponent ∷ drop (j + 1) es) whole product later left) (drop_more axes j d l) (subst (λ fs. ToCome (drop j axes) fs whole product later left) (drop_more es j 0 (omega arith)) t)
-
-  counted : numbers (degrees_of there) ≡ later / (n + 1)
-  counted = sym (ap (λ k. later / (k + 1)) n-is ∙ later_after here there exponent (drop (j + 1) es) whole product later left opened)
+  counted : numbers (degrees_of more) ≡ later / (n + 1)
+  counted = sym (ap (λ k. later / (k + 1)) n-is ∙ later_after a more e rest_es whole product later left opened)
 
   pub turn_positive : 0 < later / (n + 1)
-  turn_positive = subst (λ k. 0 < k) counted (numbers_positive (degrees_of there))
+  turn_positive = subst (λ k. 0 < k) counted (numbers_positive (degrees_of more))
 
-  pub turn_convertible : Convertible here exponent (left / (later / (n + 1)))
-  turn_convertible = subst (λ k. Convertible here exponent (left / k)) counted (convertible here there exponent (drop (j + 1) es) whole product later left opened)
+  pub turn_convertible : Convertible a e
+  turn_convertible = convertible a more e rest_es whole product later left opened
+
+  pub turn_index : left / (later / (n + 1)) ≤ a.degree
+  turn_index = subst (λ k. left / k ≤ a.degree) counted (index_below a more e rest_es whole product later left opened)
 
   abbrev coefficient : ℤ
-  coefficient = of_power (common here.degree) here.degree here.lower here.upper exponent (left / (later / (n + 1)))
+  coefficient = of_power (common a.degree) a.degree a.lower a.upper e (left / (later / (n + 1)))
 
   pub turn_small : nat_abs (product *ℤ coefficient) ≤ word
   turn_small =
-      subst (λ k. nat_abs (product *ℤ of_power (common here.degree) here.degree here.lower here.upper exponent (left / k)) ≤ word) counted
-      (product_small here there exponent (drop (j + 1) es) whole product later left opened)
+      subst (λ k. nat_abs (product *ℤ of_power (common a.degree) a.degree a.lower a.upper e (left / k)) ≤ word) counted
+      (product_small a more e rest_es whole product later left opened)
 
-  pub turn_next : (p : ℤ) → p ≡ product *ℤ coefficient → ToCome there (drop (j + 1) es) whole p (later / (n + 1)) (left % (later / (n + 1)))
-  turn_next p e =
-      subst (λ q. ToCome there (drop (j + 1) es) whole q (later / (n + 1)) (left % (later / (n + 1)))) (sym e)
-      (subst (λ k. ToCome there (drop (j + 1) es) whole (product *ℤ of_power (common here.degree) here.degree here.lower here.upper exponent (left / k)) k (left % k)) counted
-      (next here there exponent (drop (j + 1) es) whole product later left opened))
+  pub turn_next : (p : ℤ) → p ≡ product *ℤ coefficient → ToCome more rest_es whole p (later / (n + 1)) (left % (later / (n + 1)))
+  turn_next p is =
+      subst (λ q. ToCome more rest_es whole q (later / (n + 1)) (left % (later / (n + 1)))) (sym is)
+      (subst (λ k. ToCome more rest_es whole (product *ℤ of_power (common a.degree) a.degree a.lower a.upper e (left / k)) k (left % k)) counted
+      (next a more e rest_es whole product later left opened))
 
 -- ---- before the first turn, and after the last
-pub none_yet : (axes : List Axis) (es : List ℕ) (size place : ℕ) → Monomial axes es → size ≡ numbers (degrees_of axes) → place < size → ToCome axes es (of_powers axes es (index_of (degrees_of axes) place)) (pos 1) size place
-none_yet axes es size place known whole inside = record {
-  sound = all_passed axis_formed Sound axis_sound axes known.axes_formed;
-  fit = exponents_fit axes es known.exponents;
-  later_is = whole;
-  inside = inside;
-  gives = ring (of_powers axes es (index_of (degrees_of axes) place) ∷ []) (con (pos 1) ⊗ x₀) x₀ tt;
-  room = known.room;
-  small = subst (λ n. n ≤ word) (sym (one-mul (scale axes * power_reach axes es))) known.room;
-}
+module _ (axes : List Axis) (es : List ℕ) (size place : ℕ) where
+  abbrev whole : ℤ
+  whole = of_powers axes es (index_of (degrees_of axes) place)
 
-pub all_done : (axes : List Axis) (es : List ℕ) (j : ℕ) (whole product : ℤ) (later left : ℕ) → length axes ≤ j → ToCome (drop j axes) (drop j es) whole product later left → product ≡ whole
-all_done axes es j whole product later left l t =
-    let done : ToCome [] (drop j es) whole product later left = subst (λ xs. ToCome xs (drop j es) whole product later left) (drop_all j axes l) t in
-    ring (product ∷ []) x₀ (x₀ ⊗ con (pos 1)) tt ∙ done.gives
+  pub none_yet : Monomial axes es → size ≡ numbers (degrees_of axes) → place < size → (xs : List Axis) (fs : List ℕ) → xs ≡ axes → fs ≡ es → ToCome xs fs whole (pos 1) size place
+  none_yet known size-is inside xs fs first second =
+      subst (λ xs. ToCome xs fs whole (pos 1) size place) (sym first) (subst (λ fs. ToCome axes fs whole (pos 1) size place) (sym second) (record {
+        sound = all_passed axis_formed Sound axis_sound axes known.axes_formed;
+        fit = exponents_fit axes es known.exponents;
+        long = known.for_each_axis;
+        later_is = size-is;
+        inside = inside;
+        gives = ring (whole ∷ []) (con (pos 1) ⊗ x₀) x₀ tt;
+        room = known.room;
+        small = subst (λ n. n ≤ word) (sym (one-mul (scale axes * power_reach axes es))) known.room;
+      }))
+
+pub all_done : (axes : List Axis) (es : List ℕ) (whole product : ℤ) (later left : ℕ) → (length axes ≡ 0) ⊎ (length es ≡ 0) → ToCome axes es whole product later left → product ≡ whole
+all_done [] es whole product later left h t = ring (product ∷ []) x₀ (x₀ ⊗ con (pos 1)) tt ∙ t.gives
+all_done (a ∷ more) [] whole product later left h t = absurd (omega (arith, t.long))
+all_done (a ∷ more) (e ∷ es) whole product later left h t = absurd (⊎_elim (λ p. omega (arith, p)) (λ p. omega (arith, p)) h)

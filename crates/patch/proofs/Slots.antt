@@ -1,5 +1,6 @@
 -- The two slots of a workspace in which the halves of a patch come to stand.
 use Rattle.std.proofs.Common.{◌≡◌, ℕ, zero, suc, ◌+◌, ◌-◌, ◌*◌, ◌/◌, ◌%◌, ◌<◌, ◌≤◌, true, List, [], ◌∷◌, map, length, get_or, take, drop, sym, refl, ap, ◌∙◌, subst, ap₂, ⊎_elim, mod-lt, zero-mul, mul-one, add-one, arith}
+use Rattle.std.proofs.lemmas.List.Sums.{AllPass-from_list_all}
 use Rattle.std.proofs.lemmas.List.{length-take, length-drop, length-take-le, length-map, get_or-map, get_or-take, get_or-drop, get_or_past, ext_get_or, take-map, drop-map}
 use Rattle.std.proofs.lemmas.Bool.{cases_lt}
 use Rattle.std.proofs.lemmas.List.FromFn.{fill_by_all}
@@ -13,7 +14,6 @@ use Rattle.patch.specs.Halving.{part, Halved, Split}
 use Rattle.patch.specs.Judging.{all_grow}
 use Rattle.number.specs.Limits.{may_grow}
 use Rattle.patch.proofs.Rows.{Grows, half_cong}
-use Rattle.patch.proofs.Tests.{every_at}
 
 -- ---- a half reads the numbers of its own patch alone
 half_same : (h : Half) (ns : List ℕ) (j : ℕ) (x y : ℕ → Pair) → j < length ns → ((q : ℕ) → q < numbers ns → x q ≡ y q) → (p : ℕ) → p < numbers ns → half_at h (get_or ns j 0) (stride ns j) x p ≡ half_at h (get_or ns j 0) (stride ns j) y p
@@ -114,4 +114,4 @@ part_means f start size xs =
 
 pub part_grows : (limit n start size : ℕ) (work : List Pair) → start + size ≤ length work → all_grow limit n (part start size work) ≡ true → (p : ℕ) → p < size → Grows limit n (pair_at work (start + p))
 part_grows limit n start size work fits h p l =
-    subst (Grows limit n) (part_at size start work p l) (every_at (may_grow limit n) (part start size work) p pairs.nought h (omega (arith, length_part size start work fits)))
+    subst (Grows limit n) (part_at size start work p l) (AllPass-from_list_all (may_grow limit n) (part start size work) h p pairs.nought (omega (arith, length_part size start work fits)))

@@ -4,7 +4,7 @@ use lib.Signed.{mag}
 use Rattle.std.proofs.lemmas.Int.{to_z-of_z}
 use Rattle.number.specs.Limits.{word}
 
-fits_word : (z : ℤ) → nat_abs z ≤ word → SFits w64 z
+pub fits_word : (z : ℤ) → nat_abs z ≤ word → SFits w64 z
 fits_word (pos n) h = record { sfits = omega arith }
 fits_word (negsuc n) h = record { sfits = omega arith }
 

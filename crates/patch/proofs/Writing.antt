@@ -1,8 +1,8 @@
 -- A loop that writes over the start of a slice, and what a number of a slice means.
-use Rattle.std.proofs.Common.{◌≡◌, ℕ, ◌+◌, ◌<◌, List, [], ◌∷◌, ◌++◌, map, length, get_or, take, drop, set, sym, refl, ap, ◌∙◌, arith}
+use Rattle.std.proofs.Common.{◌≡◌, ℕ, ◌+◌, ◌<◌, List, [], ◌∷◌, ◌++◌, map, length, get_or, take, drop, set, sym, ap, ◌∙◌, arith}
 use Rattle.std.specs.List.{range_with_len}
 use Rattle.std.proofs.lemmas.List.FromFn.{map-range_with_len_more}
-use Rattle.std.proofs.lemmas.List.{append_assoc, map-append, drop_more, drop-drop, drop-set-lt, set_at, take_more_set, map_more, get_or-map, take_all, length-map, length-take-le}
+use Rattle.std.proofs.lemmas.List.{append_assoc, map-append, drop_more, set_at, take_more_set, map_more, get_or-map, take_all, length-map, length-take-le}
 
 pub read : {K V : Type 0} (f : K → V) (xs : List K) (i : ℕ) (x : K) (d : V) → i < length xs → x ≡ get_or xs i x → get_or (map f xs) i d ≡ f x
 read f xs i x d l e = get_or-map f xs i x d l ∙ ap f (sym e)
@@ -21,17 +21,10 @@ module _ {X Y : Type 0} (f : X → Y) (xs : List X) (old new : List Y) (i : ℕ)
       let k : i ≡ length (map f xs) = n ∙ sym (length-map xs f) in
       e ∙ ap (λ s. map f s ++ drop i old) (take_all i xs (omega arith)) ∙ ap (λ n. map f xs ++ drop n old) k
 
--- a loop that writes items which mean a function of their place
-module _ {K V : Type 0} (f : K → V) (at : ℕ → V) (old new : List K) (i : ℕ) where
-  pub record Filled : Type 0 where
-    pub front : map f (take i new) ≡ map at (range_with_len 0 i)
-    pub behind : drop i new ≡ drop i old
+-- a loop that writes items which mean a function of their place, one more at place i
+pub filled_more : {K V : Type 0} (f : K → V) (at : ℕ → V) (xs : List K) (i : ℕ) (x : K) → map f (take i xs) ≡ map at (range_with_len 0 i) → i < length xs → f x ≡ at i → map f (take (i + 1) (set xs i x)) ≡ map at (range_with_len 0 (i + 1))
+filled_more f at xs i x h l e =
+    ap (map f) (take_more_set xs i x l) ∙ map-append f (take i xs) (x ∷ []) ∙ (λ k. h k ++ e k ∷ []) ∙ sym (map-range_with_len_more at 0 i i (omega arith))
 
-pub none_filled : {K V : Type 0} (f : K → V) (at : ℕ → V) (old : List K) → Filled f at old old 0
-none_filled f at old = record { front = refl; behind = refl }
-
-pub filled_more : {K V : Type 0} (f : K → V) (at : ℕ → V) (old new : List K) (i : ℕ) (x : K) → Filled f at old new i → i < length new → f x ≡ at i → Filled f at old (set new i x) (i + 1)
-filled_more f at old new i x h l e = record {
-  front = ap (map f) (take_more_set new i x l) ∙ map-append f (take i new) (x ∷ []) ∙ (λ k. h.front k ++ e k ∷ []) ∙ sym (map-range_with_len_more at 0 i i (omega arith));
-  behind = drop-set-lt (i + 1) new i x (omega arith) ∙ sym (drop-drop 1 i new) ∙ ap (drop 1) h.behind ∙ drop-drop 1 i old;
-}
+pub filled_all : {K V : Type 0} (f : K → V) (at : ℕ → V) (xs : List K) (i n : ℕ) → map f (take i xs) ≡ map at (range_with_len 0 i) → i ≡ n → n ≡ length xs → map f xs ≡ map at (range_with_len 0 n)
+filled_all f at xs i n h p q = ap (map f) (sym (take_all i xs (omega arith))) ∙ h ∙ ap (λ n. map at (range_with_len 0 n)) p

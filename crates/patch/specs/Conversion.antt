@@ -15,12 +15,11 @@ shifted_of axis e m = pos (choose e m) *ℤ (pow (axis.upper -ℤ axis.lower) m 
 abbrev pub summand_of : Axis → ℕ → ℕ → ℕ → ℤ
 summand_of axis e k m = shifted_of axis e m *ℤ pos (share (common axis.degree) axis.degree k m)
 
--- the axis has a coefficient number k and the exponent e, and no number on the way to that coefficient exceeds a word
-pub record Convertible (axis : Axis) (e k : ℕ) : Type 0 where
+-- the axis has the exponent e, and no number on the way to the coefficients of that power exceeds a word
+pub record Convertible (axis : Axis) (e : ℕ) : Type 0 where
   pub some_degree : 1 ≤ axis.degree
   pub degree : axis.degree ≤ 8
   pub exponent : e ≤ axis.degree
-  pub place : k ≤ axis.degree
   pub room : common axis.degree * reach axis ^ e ≤ word
 
 -- a monomial of these exponents on well-formed axes: none exceeds the degree of its axis, and no number on the way to its coefficients exceeds a word

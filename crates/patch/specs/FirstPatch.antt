@@ -1,19 +1,17 @@
 -- The patch that a ticket's polynomial has on the whole box, and the inequality turned so that it asks for more than 0.
-use Rattle.std.specs.Prelude.{◌≡◌, ℕ, ◌<◌, ◌≤◌, Bool, true, cond, ◌&&◌, List, [], ◌∷◌, map, length, take, drop, ℤ, pos, ◌*ℤ◌, neg_ℤ, Result, Ok, Err, nat_le, slice_index}
-use Rattle.std.specs.List.{range_with_len}
+use Rattle.std.specs.Prelude.{◌≡◌, ℕ, ◌≤◌, Bool, true, cond, ◌&&◌, List, [], ◌∷◌, map, length, take, drop, ℤ, pos, ◌*ℤ◌, neg_ℤ, Result, Ok, Err, nat_le, slice_index}
+use Rattle.std.specs.List.{list_all, range_with_len}
 use Rattle.algebra.specs.Bernstein.{of_power}
 use Rattle.algebra.specs.Layout.{numbers, index_of}
-use Rattle.algebra.specs.Pair.{Pair, pair, opposite}
+use Rattle.algebra.specs.Pair.{Pair}
 use Rattle.number.specs.Limits.{word, carries}
 use Rattle.ticket.specs.WellFormed.{Content, all, axis_formed, term_formed}
 use Rattle.ticket.specs.declared.records.Axis.{Axis}
 use Rattle.ticket.specs.declared.records.Term.{Term}
 use Rattle.ticket.specs.declared.records.Relation.{Relation}
 use Rattle.ticket.specs.declared.records.Relation.TheVariants.{Greater, AtLeast, Less, AtMost}
-use Rattle.patch.specs.Judging.{every}
 use Rattle.patch.specs.Point.{sum_over}
 use Rattle.ticket.specs.Sizes.{common, degrees_of, rest, value_size, drift_size}
-use Rattle.patch.specs.declared.parts.Parts.{Parts}
 use Rattle.patch.specs.declared.refusal.PatchRefusal.{PatchRefusal}
 use Rattle.patch.specs.declared.refusal.PatchRefusal.TheVariants.{Drift, Room}
 
@@ -53,30 +51,17 @@ abbrev pub first_patch : Content → List Pair
 first_patch c = map (λ i. first_number c (index_of (degrees_of c.axes) i)) (range_with_len 0 (numbers (degrees_of c.axes)))
 
 -- ---- writing it
--- the pair of two parts
-abbrev pub pair_of_parts : Parts → Pair
-pair_of_parts x = pair x.value x.drift
-
--- for < and ≤ the opposite pair
-abbrev pub turned_pair : Relation → Pair → Pair
-turned_pair Greater x = x
-turned_pair AtLeast x = x
-turned_pair Less x = opposite x
-turned_pair AtMost x = opposite x
-
--- terms on well-formed axes, whose numbers at the places below `size` are all words
-pub record Summable (axes : List Axis) (terms : List Term) (size place : ℕ) : Type 0 where
+-- terms on well-formed axes, whose numbers are all words
+pub record Summable (axes : List Axis) (terms : List Term) : Type 0 where
   pub axes_formed : all axis_formed axes ≡ true
   pub terms_formed : all (term_formed axes) terms ≡ true
   pub few : length axes ≤ 4
-  pub whole : size ≡ numbers (degrees_of axes)
-  pub inside : place < size
   pub value_room : value_size axes terms ≤ word
   pub drift_room : drift_size axes terms ≤ word
 
 -- the kind of number carries the drift of every term
 abbrev pub all_carried : Bool → List Term → Bool
-all_carried drifts terms = every (carries drifts) (map (λ t. t.drift) terms)
+all_carried drifts terms = list_all (carries drifts) (map (λ t. t.drift) terms)
 
 -- the first patch can be written: the kind carries its drifts, and there is room for it
 abbrev pub may_begin : Bool → Content → ℕ → Bool

@@ -1,5 +1,6 @@
 -- Judging the patch of a box: what its numbers say of the relation.
-use Rattle.std.specs.Prelude.{ℕ, zero, suc, Bool, true, false, cond, not, ◌&&◌, List, [], ◌∷◌, ◌++◌, map, length, Some, None, Option, slice_index_or}
+use Rattle.std.specs.Prelude.{ℕ, zero, suc, Bool, true, false, not, ◌&&◌, List, [], ◌∷◌, ◌++◌, map, length, Option, slice_index_or}
+use Rattle.std.specs.List.{list_all, find}
 use Rattle.algebra.specs.Pair.{Pair, pairs, sign_of}
 use Rattle.algebra.specs.Form.{corner_index}
 use Rattle.algebra.specs.Layout.{place_of}
@@ -26,17 +27,13 @@ satisfies AtMost Negative = true
 satisfies AtMost Zero = true
 satisfies AtMost Positive = false
 
-abbrev pub every : {X : Type 0} → (X → Bool) → List X → Bool
-every test [] = true
-every test (x ∷ xs) = test x && every test xs
-
 -- all numbers of the patch satisfy the relation
 abbrev pub all_satisfy : Relation → List Pair → Bool
-all_satisfy relation b = every (λ x. satisfies relation (sign_of x)) b
+all_satisfy relation b = list_all (λ x. satisfies relation (sign_of x)) b
 
 -- all numbers of the patch may be doubled n times
 abbrev pub all_grow : ℕ → ℕ → List Pair → Bool
-all_grow limit n b = every (may_grow limit n) b
+all_grow limit n b = list_all (may_grow limit n) b
 
 abbrev pub signs : List Pair → List Sign
 signs b = map sign_of b
@@ -69,10 +66,6 @@ corner_number ns b c = slice_index_or b (place_of ns (corner_index ns c)) pairs.
 abbrev pub breaks : Relation → List ℕ → List Ends → List Pair → List Half → Bool
 breaks relation ns es b c = corner_inside es c && not (satisfies relation (sign_of (corner_number ns b c)))
 
-abbrev pub first_of : {X : Type 0} → (X → Bool) → List X → Option X
-first_of test [] = None
-first_of test (x ∷ xs) = cond (test x) (Some x) (first_of test xs)
-
 -- the corner of lowest place that lies in the box and violates the relation
 abbrev pub broken_corner : Relation → List ℕ → List Ends → List Pair → Option (List Half)
-broken_corner relation ns es b = first_of (breaks relation ns es b) (corners (length ns))
+broken_corner relation ns es b = find (breaks relation ns es b) (corners (length ns))

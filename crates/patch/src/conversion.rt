@@ -1,12 +1,10 @@
 // The Bernstein coefficients of one power of a variable, between the ends of its axis.
-ghost use Rattle.std.specs.Prelude.{◌≡◌, ◌+◌, ◌*◌, ◌^◌, ◌≤◌, pos, ◌-ℤ◌, unsigned_abs};
+ghost use Rattle.std.specs.Prelude.{◌≡◌, ◌*◌, ◌^◌, ◌≤◌, pos, ◌-ℤ◌, unsigned_abs};
 ghost use Rattle.algebra.specs.Bernstein.{choose, of_power};
-ghost use Rattle.algebra.specs.Module.{pow};
-ghost use Rattle.number.specs.Limits.{word};
 ghost use Rattle.ticket.specs.Sizes.{common, reach};
 ghost use Rattle.patch.specs.Conversion.{Convertible, shifted_of, summand_of};
 
-use super::weights::weight;
+use crate::weights::weight;
 use ticket::Axis;
 
 // Pascal's triangle, up to the row 8.
@@ -29,51 +27,51 @@ fn binomial(n: u8, m: u8) -> i64
     i64::from(BINOMIALS[usize::from(n)][usize::from(m)])
 }
 
-fn power(base: i64, exponent: u8) -> i64
-    requires { unsigned_abs base ^ exponent ≤ word }
-    ensures { result ≡ pow base exponent }
-{
-    let mut product = 1;
-    for _i in 0..exponent {
-        product *= base;
+// A power of a variable, between the ends of the variable's axis. No number on the way to its coefficients exceeds a word.
+#[derive(Clone, Copy)]
+pub(crate) struct Power {
+    pub(crate) axis: Axis,
+    pub(crate) exponent: u8,
+    ghost convertible: { Convertible axis exponent },
+}
+
+impl Power {
+    fn width(self) -> i64
+        ensures { result ≡ self.axis.upper -ℤ self.axis.lower }
+    {
+        i64::from(self.axis.upper) - i64::from(self.axis.lower)
     }
-    product
-}
 
-fn width(axis: Axis) -> i64
-    ensures { result ≡ axis.upper -ℤ axis.lower }
-{
-    i64::from(axis.upper) - i64::from(axis.lower)
-}
-
-// The power as a polynomial in the distance from the lower end, in units of the width: its coefficient number m.
-fn shifted(axis: Axis, exponent: u8, m: u8) -> i64
-    requires row { exponent ≤ 8 }
-    requires place { m ≤ exponent }
-    requires room { reach axis ^ exponent ≤ word }
-    ensures { result ≡ shifted_of axis exponent m }
-{
-    binomial(exponent, m) * (power(width(axis), m) * power(i64::from(axis.lower), exponent - m))
-}
-
-// What that coefficient adds to the Bernstein coefficient number k.
-fn summand(axis: Axis, exponent: u8, k: u8, m: u8) -> i64
-    requires asked { Convertible axis exponent k }
-    requires place { m ≤ exponent }
-    ensures { result ≡ summand_of axis exponent k m }
-{
-    shifted(axis, exponent, m) * weight(axis.degree, k, m)
-}
-
-// The Bernstein coefficient number k of the power, times the common multiple of the binomials of the axis's degree.
-pub(crate) fn converted(axis: Axis, exponent: u8, k: u8) -> i64
-    requires { Convertible axis exponent k }
-    ensures is { result ≡ of_power (common axis.degree) axis.degree axis.lower axis.upper exponent k }
-    ensures small { unsigned_abs result ≤ common axis.degree * reach axis ^ exponent }
-{
-    let mut sum = 0;
-    for m in 0..exponent + 1 {
-        sum += summand(axis, exponent, k, m);
+    // The power as a polynomial in the distance from the lower end, in units of the width: its coefficient number m.
+    fn shifted(self, m: u8) -> i64
+        requires { m ≤ self.exponent }
+        ensures { result ≡ shifted_of self.axis self.exponent m }
+    {
+        let lower = i64::from(self.axis.lower);
+        binomial(self.exponent, m)
+            * (self.width().pow(u32::from(m)) * lower.pow(u32::from(self.exponent - m)))
     }
-    sum
+
+    // What that coefficient adds to the Bernstein coefficient number k.
+    fn summand(self, k: u8, m: u8) -> i64
+        requires asked { k ≤ self.axis.degree }
+        requires place { m ≤ self.exponent }
+        ensures { result ≡ summand_of self.axis self.exponent k m }
+    {
+        self.shifted(m) * weight(self.axis.degree, k, m)
+    }
+
+    // The Bernstein coefficient number k, times the common multiple of the binomials of the axis's degree.
+    pub(crate) fn converted(self, k: u8) -> i64
+        requires { k ≤ self.axis.degree }
+        ensures is { result ≡ of_power (common self.axis.degree) self.axis.degree self.axis.lower self.axis.upper self.exponent k }
+        ensures small { unsigned_abs result ≤ common self.axis.degree * reach self.axis ^ self.exponent }
+    {
+        // Not a chain: of a signed `sum` it cannot be shown that every sum on the way fits.
+        let mut sum = 0;
+        for m in 0..=self.exponent {
+            sum += self.summand(k, m);
+        }
+        sum
+    }
 }

@@ -1,6 +1,6 @@
 // What the numbers of a patch say of the relation.
 ghost use Rattle.std.specs.Prelude.{◌≡◌, map, length, is_ok};
-ghost use Rattle.patch.specs.Judging.{satisfies as satisfied, all_satisfy, all_grow, signs as signs_of};
+ghost use Rattle.patch.specs.Judging.{satisfies, all_satisfy, all_grow, signs as signs_of};
 ghost use Rattle.patch.specs.Writing.{written, writing};
 ghost use Rattle.patch.specs.Meaning.{AllSatisfiedIsTrueInside};
 
@@ -11,13 +11,13 @@ use ticket::Relation;
 
 // Whether a number of this sign stands in the relation to zero.
 pub fn satisfies(relation: Relation, sign: Sign) -> bool
-    ensures { result ≡ satisfied relation sign }
+    ensures { result ≡ satisfies relation sign }
 {
     match relation {
-        Relation::Greater => matches!(sign, Sign::Positive),
-        Relation::AtLeast => !matches!(sign, Sign::Negative),
-        Relation::Less => matches!(sign, Sign::Negative),
-        Relation::AtMost => !matches!(sign, Sign::Positive),
+        Relation::Greater => sign == Sign::Positive,
+        Relation::AtLeast => sign != Sign::Negative,
+        Relation::Less => sign == Sign::Negative,
+        Relation::AtMost => sign != Sign::Positive,
     }
 }
 
@@ -26,24 +26,14 @@ pub fn all_satisfy<K: Number>(relation: Relation, numbers: &[K]) -> bool
     ensures answer { result ≡ all_satisfy relation (map K.means numbers.now) }
     ensures meaning { AllSatisfiedIsTrueInside }
 {
-    for x in numbers {
-        if !satisfies(relation, x.sign()) {
-            return false;
-        }
-    }
-    true
+    numbers.iter().all(|x| satisfies(relation, x.sign()))
 }
 
 // Whether all numbers of a patch may be doubled n times.
 pub fn all_grow<K: Number>(numbers: &[K], n: u32) -> bool
     ensures { result ≡ all_grow K.limit n (map K.means numbers.now) }
 {
-    for x in numbers {
-        if !x.grows(n) {
-            return false;
-        }
-    }
-    true
+    numbers.iter().all(|x| x.grows(n))
 }
 
 // Writes the signs of a patch's numbers to the start of a slice. A slice that is too short for them is left as it is.
@@ -54,8 +44,9 @@ pub fn write_signs<K: Number>(numbers: &[K], signs: &mut [Sign]) -> Result<(), P
     if signs.len() < numbers.len() {
         return Err(PatchRefusal::Room);
     }
-    for i in 0..numbers.len() {
-        signs[i] = numbers[i].sign();
+    // By index: of a slice that is written through a zipped iterator a proof knows no item afterwards.
+    for (i, number) in numbers.iter().enumerate() {
+        signs[i] = number.sign();
     }
     Ok(())
 }

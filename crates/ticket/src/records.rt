@@ -1,4 +1,6 @@
 // What the records of a ticket say.
+ghost use Rattle.std.specs.Prelude.{◌≡◌};
+ghost use Rattle.number.specs.Limits.{carries};
 
 // One variable of the polynomial: the interval that it runs over, and the highest power in which it may stand.
 #[derive(Clone, Copy)]
@@ -16,6 +18,15 @@ pub struct Term {
     pub exponents: [u8; 4],
     pub coefficient: i32,
     pub drift: i32,
+}
+
+impl Term {
+    // Whether a kind of number that drifts or not carries this term.
+    pub fn is_carried(&self, drifts: bool) -> bool
+        ensures { result ≡ carries drifts self.now.drift }
+    {
+        drifts || self.drift == 0
+    }
 }
 
 // How the polynomial is asked to stand to zero.

@@ -1,27 +1,14 @@
-use Rattle.std.proofs.Common.{[], get_or, pos, sym, ◌∙◌}
-use Rattle.std.proofs.lemmas.List.{get_or_default}
+use Rattle.std.proofs.Common.{sym, ap, ◌∙◌, rules, tests}
+use Rattle.std.proofs.lemmas.Iterator.{YieldsList-from_slice}
+use Rattle.std.proofs.lemmas.Iterator.Search.{all_from_yields_List}
+use Rattle.std.proofs.lemmas.List.Folds.{list_all-map}
 use Rattle.number.specs.Limits.{carries}
-use Rattle.ticket.specs.declared.records.Term.{Term}
-use Rattle.patch.proofs.Tests.{every_fails, every_more, every_all}
+use Rattle.patch.specs.FirstPatch.{all_carried}
 use Rattle.patch.proofs.first_patch.all_carried.Goals as goal
 
--- what a list of terms reads as past its end
-abbrev none : Term
-none = record { exponents = []; coefficient = pos 0; drift = pos 0 }
-
-pub returns-then-not-is_carried : goal.returns-then-not-is_carried
-returns-then-not-is_carried c =
-    let terms = c.args.terms.now in
-    let i = c.loop-term.term-index in
-    every_fails (carries c.args.drifts) (λ t. t.drift) terms i c.loop-term.invariant (get_or terms i none) c.loop-term-test.true (get_or_default terms i none _ c.loop-term-test.true)
-    (sym c.is_carried.ensures ∙ c.if-not-is_carried.true)
-
-pub loop-term-preserved : goal.loop-term-preserved
-loop-term-preserved c =
-    let terms = c.args.terms.now in
-    let i = c.loop-term.term-index in
-    every_more (carries c.args.drifts) (λ t. t.drift) terms i c.loop-term.invariant (get_or terms i none) c.loop-term-test.true (get_or_default terms i none _ c.loop-term-test.true)
-    (sym c.is_carried.ensures ∙ c.if-not-is_carried.false)
-
 pub returns : goal.returns
-returns c = every_all (carries c.args.drifts) (λ t. t.drift) c.args.terms.now c.loop-term.term-index c.loop-term.invariant c.loop-term-test.false
+returns g c =
+    let terms = c.args.terms.now in
+    all_from_yields_List (λ t. carries c.is_some-drifts.result t.drift) _ _ _ c.all.ensures.ran (YieldsList-from_slice terms (cc)) (λ t b q k. search (rules, tests))
+    ∙ sym (list_all-map (carries c.is_some-drifts.result) (λ t. t.drift) terms)
+    ∙ ap (λ d. all_carried d terms) (search rules)

@@ -1,19 +1,12 @@
-use Rattle.std.proofs.Common.{sym, ◌∙◌}
+use Rattle.std.proofs.Common.{sym, ◌∙◌, rules, tests}
+use Rattle.std.proofs.lemmas.Iterator.{YieldsList-from_slice}
+use Rattle.std.proofs.lemmas.Iterator.Search.{all_from_yields_List}
+use Rattle.std.proofs.lemmas.List.Folds.{list_all-map}
 use Rattle.number.specs.Limits.{may_grow}
-use Rattle.patch.proofs.Tests.{every_fails, every_more, every_all}
 use Rattle.patch.proofs.judging.all_grow.Goals as goal
 
-pub returns-then-not-grows : goal.returns-then-not-grows
-returns-then-not-grows g c =
-    let m = g.K.Number in
-    every_fails (may_grow m.limit c.args.n) m.means c.args.numbers.now c.loop-x.x-index c.loop-x.invariant c.x-item.result c.loop-x-test.true c.x-item.is
-    (sym c.grows.ensures ∙ c.if-not-grows.true)
-
-pub loop-x-preserved : goal.loop-x-preserved
-loop-x-preserved g c =
-    let m = g.K.Number in
-    every_more (may_grow m.limit c.args.n) m.means c.args.numbers.now c.loop-x.x-index c.loop-x.invariant c.x-item.result c.loop-x-test.true c.x-item.is
-    (sym c.grows.ensures ∙ c.if-not-grows.false)
-
 pub returns : goal.returns
-returns g c = let m = g.K.Number in every_all (may_grow m.limit c.args.n) m.means c.args.numbers.now c.loop-x.x-index c.loop-x.invariant c.loop-x-test.false
+returns g c =
+    let m = g.K.Number in
+    all_from_yields_List (λ x. may_grow m.limit c.args.n (m.means x)) _ _ _ c.all.ensures.ran (YieldsList-from_slice c.args.numbers.now (cc)) (λ x b q k. search (rules, tests))
+    ∙ sym (list_all-map (may_grow m.limit c.args.n) m.means c.args.numbers.now)
