@@ -1,23 +1,32 @@
 -- What is found out about a box, by the answers to the questions that are asked of it.
 use Rattle.std.proofs.Common.{◌≡◌, ℕ, zero, suc, ◌+◌, ◌^◌, ◌≤◌, Bool, true, false, cond, eqb, List, map, length, Some, None, Option, sym, refl, ap, ◌∙◌, arith}
 use lib.ListN.{length-map}
-use Rattle.std.specs.List.{range_with_len}
+use Rattle.std.specs.List.{find, range_with_len}
 use Rattle.std.specs.Option.{option_map}
 use Rattle.std.proofs.lemmas.Bool.{le-leb, eqb-false}
+use Rattle.algebra.specs.Form.{other}
 use Rattle.algebra.specs.declared.half.Half.{Half}
 use Rattle.ticket.specs.Sizes.{degrees_of}
 use Rattle.ticket.specs.WellFormed.{Content}
 use Rattle.patch.specs.Box.{box_ends}
 use Rattle.patch.specs.Corners.{rank, corner_of, lowest_broken}
 use Rattle.patch.specs.FirstPatch.{turned}
-use Rattle.patch.specs.Judging.{all_satisfy, corners, first_of, breaks, broken_corner}
+use Rattle.patch.specs.Judging.{all_satisfy, corners, breaks, broken_corner}
 use Rattle.patch.proofs.BoxCorners.{rank_of_corner, corners_are_numbered}
 use Rattle.chooser.specs.Choice.{Meaning}
-use Rattle.search.specs.Search.{Piece, level, is_clear, violation, may_halve, question_of, settled, broken, too_deep, examine, judged, first_half, second_half}
+use Rattle.search.specs.Search.{Piece, level, is_clear, violation, may_halve, question_of, half_of, Outcome, settled, broken, too_deep, too_large, split, examine, judged, first_half, second_half}
 use Rattle.search.proofs.Keeping.{void}
 use Rattle.case.specs.Judgement.{found, judgement}
-use Rattle.case.specs.Model.{halves, halves_or_aside}
 use Rattle.case.specs.declared.judgement.Judgement.TheVariants.{Clear, Broken, Deep, Undecided}
+
+-- the halves are put waiting, the first above the other
+abbrev pub halves : Content → Half → ℕ → Piece → Outcome
+halves c first j x = split (half_of c first j x) (half_of c (other first) j x)
+
+-- or the box is set aside, where its numbers may not grow
+abbrev pub halves_or_aside : Bool → Content → Half → ℕ → Piece → Outcome
+halves_or_aside true c first j x = halves c first j x
+halves_or_aside false c first j x = too_large
 
 -- ---- by the answers
 broken_is_found : (v : Option (List Half)) (n : ℕ) (d : Bool) (a : ℕ × Half) → Some n ≡ option_map rank v → Broken n ≡ found false v d a
@@ -61,18 +70,18 @@ module _ (c : Content) (μ : Meaning) (depth : ℕ) (x : Piece) where
       choice_is_found a e q = sym (by_depth ∙ ap (λ b. found false None b (μ (question_of c μ x))) e ∙ ap (λ a. Undecided a.0 a.1) (sym q))
 
 -- ---- a corner by its number
-numbered_corner : (m : ℕ) (test : List Half → Bool) (from count n : ℕ) → from + count ≤ 2 ^ m → option_map rank (first_of test (map (corner_of m) (range_with_len from count))) ≡ Some n →
-    first_of test (map (corner_of m) (range_with_len from count)) ≡ Some (corner_of m n)
+numbered_corner : (m : ℕ) (test : List Half → Bool) (from count n : ℕ) → from + count ≤ 2 ^ m → option_map rank (find test (map (corner_of m) (range_with_len from count))) ≡ Some n →
+    find test (map (corner_of m) (range_with_len from count)) ≡ Some (corner_of m n)
 numbered_corner m test from zero n l e = absurd (void (cc))
 numbered_corner m test from (suc count) n l e = by_test (test (corner_of m from)) refl (λ q. numbered_corner m test (from + 1) count n (omega arith) q) e
   where
-    by_test : (b : Bool) → test (corner_of m from) ≡ b → (option_map rank (first_of test (map (corner_of m) (range_with_len (from + 1) count))) ≡ Some n → first_of test (map (corner_of m) (range_with_len (from + 1) count)) ≡ Some (corner_of m n)) → option_map rank (cond b (Some (corner_of m from)) (first_of test (map (corner_of m) (range_with_len (from + 1) count)))) ≡ Some n →
-        cond (test (corner_of m from)) (Some (corner_of m from)) (first_of test (map (corner_of m) (range_with_len (from + 1) count))) ≡ Some (corner_of m n)
+    by_test : (b : Bool) → test (corner_of m from) ≡ b → (option_map rank (find test (map (corner_of m) (range_with_len (from + 1) count))) ≡ Some n → find test (map (corner_of m) (range_with_len (from + 1) count)) ≡ Some (corner_of m n)) → option_map rank (cond b (Some (corner_of m from)) (find test (map (corner_of m) (range_with_len (from + 1) count)))) ≡ Some n →
+        cond (test (corner_of m from)) (Some (corner_of m from)) (find test (map (corner_of m) (range_with_len (from + 1) count))) ≡ Some (corner_of m n)
     by_test true t later q =
         let r : from ≡ n = let z : rank (corner_of m from) ≡ n = cc in sym (rank_of_corner m from (omega arith)) ∙ z in
-        ap (λ b. cond b (Some (corner_of m from)) (first_of test (map (corner_of m) (range_with_len (from + 1) count)))) t ∙ ap (λ i. Some (corner_of m i)) r
+        ap (λ b. cond b (Some (corner_of m from)) (find test (map (corner_of m) (range_with_len (from + 1) count)))) t ∙ ap (λ i. Some (corner_of m i)) r
     by_test false t later q =
-        ap (λ b. cond b (Some (corner_of m from)) (first_of test (map (corner_of m) (range_with_len (from + 1) count)))) t ∙ later q
+        ap (λ b. cond b (Some (corner_of m from)) (find test (map (corner_of m) (range_with_len (from + 1) count)))) t ∙ later q
 
 violated_corner : (c : Content) (x : Piece) (n : ℕ) → option_map rank (violation c x) ≡ Some n → violation c x ≡ Some (corner_of (length c.axes) n)
 unfolding violation
@@ -81,7 +90,7 @@ violated_corner c x n e =
     let test : List Half → Bool = breaks (turned c).relation ns (box_ends c.axes x.box) x.patch in
     let m : ℕ = length ns in
     let l = (corners_are_numbered m).listed in
-    let f : first_of test (corners m) ≡ Some (corner_of m n) = ap (first_of test) l ∙ numbered_corner m test 0 (2 ^ m) n (omega arith) (ap (λ cs. option_map rank (first_of test cs)) (sym l) ∙ e) in
+    let f : find test (corners m) ≡ Some (corner_of m n) = ap (find test) l ∙ numbered_corner m test 0 (2 ^ m) n (omega arith) (ap (λ cs. option_map rank (find test cs)) (sym l) ∙ e) in
     f ∙ ap (λ k. Some (corner_of k n)) (length-map c.axes (λ a. a.degree))
 
 -- ---- what examining comes to

@@ -1,61 +1,49 @@
 -- What is lent to the questions about the newest box, in the words of the search.
-use Rattle.std.proofs.Common.{◌≡◌, ℕ, ◌-◌, ◌<◌, Bool, true, List, [], ◌∷◌, ◌++◌, map, length, take, Option, sym, refl, ap, ◌∙◌, ap₂, arith}
+use Rattle.std.proofs.Common.{◌≡◌, ℕ, Bool, true, List, map, length, take, Option, sym, ap, ◌∙◌, ap₂, arith}
+use Rattle.std.proofs.lemmas.List.{take-map}
+use Rattle.std.proofs.Math.Seq.{take-append_seam}
 use Rattle.algebra.specs.Pair.{Pair}
+use Rattle.number.specs.declared.number.Number.{Ghosts}
 use Rattle.ticket.specs.Sizes.{degrees_of}
 use Rattle.ticket.specs.declared.records.Axis.{Axis}
 use Rattle.ticket.specs.declared.records.Relation.{Relation}
 use Rattle.patch.specs.Box.{box_ends}
 use Rattle.patch.specs.Corners.{ends_of, lowest_broken}
 use Rattle.patch.specs.FirstPatch.{turned}
-use Rattle.patch.specs.Point.{sum_of}
+use Rattle.patch.specs.Judging.{all_satisfy}
 use Rattle.patch.specs.Writing.{written}
 use Rattle.patch.specs.declared.ends.Ends.{Ends}
-use Rattle.search.specs.Search.{level, halvings_of}
+use Rattle.search.specs.Search.{halvings_of}
 use Rattle.case.specs.Records.{box_of}
-use Rattle.case.specs.Held.{newest_of}
 use Rattle.case.specs.Model.{ticket_of}
 use Rattle.case.specs.declared.record.Record.{Record}
 use Rattle.case.specs.declared.case.Case.{Case}
-use Rattle.case.proofs.BoxOf.{parts_have_halvings}
-use Rattle.case.proofs.Standing.{axes, few_axes, four_halvings}
+use Rattle.case.proofs.EndsOfBox.{no_more_ends}
+use Rattle.case.proofs.Standing.{axes}
 
 -- ---- signs
-front_of : {X : Type 0} (xs ys : List X) → take (length xs) (xs ++ ys) ≡ xs
-front_of [] ys = refl
-front_of (x ∷ xs) ys = ap (λ zs. x ∷ zs) (front_of xs ys)
+pub written_front : {X : Type 0} (r : Bool) (new old all : List X) (n : ℕ) → r ≡ true → all ≡ written r new old → n ≡ length new → take n all ≡ new
+written_front r new old all n t e l = ap₂ take l (e ∙ ap (λ b. written b new old) t) ∙ take-append_seam new _
 
-pub written_front : {X : Type 0} (r : Bool) (new old all : List X) (n : ℕ) → r ≡ true → all ≡ written r new old → n ≡ length new → take (n - 0) all ≡ new
-written_front r new old all n t e l =
-    let z : n - 0 ≡ length new = omega arith in
-    ap₂ take z (e ∙ ap (λ b. written b new old) t) ∙ front_of new _
+-- ---- the relation
+pub turned_satisfies : (relation turned : Relation) (patch : List Pair) (result answer : Bool) → relation ≡ turned → result ≡ all_satisfy relation patch → result ≡ answer → all_satisfy turned patch ≡ answer
+turned_satisfies relation turned patch result answer q e f = sym (ap (λ r. all_satisfy r patch) q) ∙ sym e ∙ f
 
 -- ---- degrees, ends and halvings
-module _ {K : Type 0} (k : Case K) (lent : List Axis) (all : lent ≡ (ticket_of k).axes) where
-  as_many_lent : length lent - 0 ≡ axes k
+module _ {K : Type 0} {N : Ghosts K} (k : Case K N) (lent : List Axis) (all : lent ≡ (ticket_of k).axes) where
+  as_many_lent : length lent ≡ axes k
   as_many_lent = omega (arith, ap length all)
 
-  pub degrees_lent : take (length lent - 0) k.degrees ≡ degrees_of (ticket_of k).axes
+  pub degrees_lent : take (length lent) k.degrees ≡ degrees_of (ticket_of k).axes
   degrees_lent = ap (λ n. take n k.degrees) as_many_lent ∙ k.shaped
 
-  module _ (waits : 0 < k.waiting.len) (top : Record) (newest : top ≡ newest_of k.waiting) where
-    pub halvings_lent : take (length lent - 0) top.halvings ≡ halvings_of (box_of (axes k) (newest_of k.waiting))
-    halvings_lent =
-        ap₂ (λ n r. take n r.halvings) as_many_lent newest
-        ∙ sym (parts_have_halvings (axes k) (newest_of k.waiting).halvings (newest_of k.waiting).places (omega (arith, few_axes k, four_halvings k waits)))
+  pub halvings_lent : (r : Record) (halvings : List ℕ) → halvings ≡ halvings_of r → take (length lent) halvings ≡ halvings_of (box_of (axes k) r)
+  halvings_lent r halvings e = ap₂ take as_many_lent e ∙ take-map (λ p. p.halvings) (axes k) r
 
-    pub level_lent : sum_of (take (length lent - 0) top.halvings) ≡ level (box_of (axes k) (newest_of k.waiting))
-    level_lent = ap sum_of halvings_lent
-
-    ends_lent : (ends : List Ends) → map ends_of (take (length lent) ends) ≡ box_ends lent (box_of (length lent) top) →
-        map ends_of (take (length lent - 0) ends) ≡ box_ends (ticket_of k).axes (box_of (axes k) (newest_of k.waiting))
-    ends_lent ends e =
-        let z : length lent - 0 ≡ length lent = omega arith in
-        ap (λ n. map ends_of (take n ends)) z ∙ e ∙ ap₂ (λ xs r. box_ends xs (box_of (length xs) r)) all newest
-
-    pub lowest_lent : (relation : Relation) (ends : List Ends) (patch : List Pair) (number : Option ℕ) → relation ≡ (turned (ticket_of k)).relation →
-        map ends_of (take (length lent) ends) ≡ box_ends lent (box_of (length lent) top) →
-        number ≡ lowest_broken relation (take (length lent - 0) k.degrees) (map ends_of (take (length lent - 0) ends)) patch →
-        number ≡ lowest_broken (turned (ticket_of k)).relation (degrees_of (ticket_of k).axes) (box_ends (ticket_of k).axes (box_of (axes k) (newest_of k.waiting))) patch
-    lowest_lent relation ends patch number r e f =
-        f ∙ ap (λ x. lowest_broken x (take (length lent - 0) k.degrees) (map ends_of (take (length lent - 0) ends)) patch) r
-        ∙ ap₂ (λ ns es. lowest_broken (turned (ticket_of k)).relation ns es patch) degrees_lent (ends_lent ends e)
+  pub lowest_lent : (r : Record) (relation : Relation) (ends : List Ends) (patch : List Pair) (number : Option ℕ) → relation ≡ (turned (ticket_of k)).relation →
+      map ends_of (take (length lent) ends) ≡ box_ends lent r →
+      number ≡ lowest_broken relation (take (length lent) k.degrees) (map ends_of (take (length lent) ends)) patch →
+      number ≡ lowest_broken (turned (ticket_of k)).relation (degrees_of (ticket_of k).axes) (box_ends (ticket_of k).axes (box_of (axes k) r)) patch
+  lowest_lent r relation ends patch number q e f =
+      f ∙ ap (λ x. lowest_broken x (take (length lent) k.degrees) (map ends_of (take (length lent) ends)) patch) q
+      ∙ ap₂ (λ ns es. lowest_broken (turned (ticket_of k)).relation ns es patch) degrees_lent (e ∙ ap (λ xs. box_ends xs r) all ∙ sym (no_more_ends (ticket_of k).axes r))

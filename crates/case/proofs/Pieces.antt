@@ -1,23 +1,29 @@
 -- The pieces that a table and a workspace stand for, and what becomes of them.
-use Rattle.std.proofs.Common.{◌≡◌, ℕ, suc, ◌+◌, ◌-◌, ◌*◌, ◌<◌, ◌≤◌, List, [], ◌∷◌, map, length, get_or, take, drop, Some, sym, refl, ap, ◌∙◌, ap₂, mul-le-mul_right, suc-mul, arith}
+use Rattle.std.proofs.Common.{◌≡◌, ℕ, suc, ◌+◌, ◌*◌, ◌<◌, ◌≤◌, List, [], ◌∷◌, map, length, take, drop, sym, refl, ap, ◌∙◌, ap₂, mul-le-mul_right, suc-mul, arith}
 use Rattle.std.proofs.lemmas.List.{take-take, drop-take, take-map, drop-map}
 use Rattle.algebra.specs.Pair.{Pair, pairs}
 use Rattle.algebra.specs.Form.{other}
 use Rattle.algebra.specs.Layout.{flat_half, numbers}
 use Rattle.algebra.specs.declared.half.Half.{Half}
-use Rattle.ticket.specs.Sizes.{rest, degrees_of}
+use Rattle.ticket.specs.Sizes.{degrees_of}
 use Rattle.ticket.specs.WellFormed.{Content}
-use Rattle.patch.specs.Box.{coordinates}
+use Rattle.patch.specs.Box.{half_box}
 use Rattle.patch.specs.Halving.{part, Halved}
-use Rattle.search.specs.Search.{Piece, half_of, Search, Outcome, broken, counted, after}
-use Rattle.case.specs.Records.{box_of, half_record, blank}
-use Rattle.case.specs.Model.{piece_in, pieces, after_newest, SideBySide, halves}
+use Rattle.search.specs.Search.{Piece, half_of}
+use Rattle.case.specs.Records.{box_of}
+use Rattle.case.specs.Model.{piece_in, pieces}
 use Rattle.case.specs.declared.record.Record.{Record}
-use Rattle.case.proofs.BoxOf.{half_record_has_half_box}
+use Rattle.case.proofs.BoxOf.{half_has_box}
 
 -- ---- a part of what a kind of number means
 pub part_map : {K : Type 0} (f : K → Pair) (start size : ℕ) (xs : List K) → part start size (map f xs) ≡ map f (part start size xs)
 part_map f start size xs = ap (take size) (drop-map f start xs) ∙ take-map f size (drop start xs)
+
+-- the patch from `start` on was halved in the workspace, the second half in its place and the first behind it
+pub record SideBySide (ns : List ℕ) (j : ℕ) (first : Half) (start size : ℕ) (old new : List Pair) : Type 0 where
+  pub second_half : part start size new ≡ flat_half pairs (other first) ns j (part start size old)
+  pub first_half : part (start + size) size new ≡ flat_half pairs first ns j (part start size old)
+  pub before : take start new ≡ take start old
 
 pub stand_side_by_side : (first : Half) (ns : List ℕ) (j start size : ℕ) (old new : List Pair) → size ≡ numbers ns → Halved first ns j start old new → SideBySide ns j first start size old new
 stand_side_by_side first ns j start size old new e h = record {
@@ -42,54 +48,17 @@ earlier_stay m size k (r ∷ rs) old new l e =
     let others = earlier_stay m size k rs old new (omega arith) e in
     ap₂ (λ p ps. record { box = box_of m r; patch = p } ∷ ps) same others
 
--- ---- what becomes of the newest piece
-module _ (c : Content) (s : Search) (m size : ℕ) (recs recs' : List Record) (some : 0 < length recs) where
-  -- it leaves
-  pub leaves : (o : Outcome) (deep large : ℕ) (work : List Pair) → ((x : Piece) (xs : List Piece) → counted s xs deep large s.corner ≡ after c s x xs o) → recs' ≡ rest recs →
-      counted s (pieces m size recs' work) deep large s.corner ≡ after_newest c s (pieces m size recs work) o
-  leaves o deep large work same eq = by_newest recs some eq
-    where
-      by_newest : (xs : List Record) → 0 < length xs → recs' ≡ rest xs → counted s (pieces m size recs' work) deep large s.corner ≡ after_newest c s (pieces m size xs work) o
-      by_newest [] l q = absurd (omega arith)
-      by_newest (r ∷ rs) l q = ap (λ xs. counted s (pieces m size xs work) deep large s.corner) q ∙ same (piece_in m size r (length rs) work) (pieces m size rs work)
-
-  -- a corner of it violates the relation
-  pub breaks : (es : List Half) (top : Record) (work : List Pair) → top ≡ get_or recs 0 blank → recs' ≡ [] →
-      counted s (pieces m size recs' work) s.aside_depth s.aside_range (Some (coordinates c.axes (box_of m top) es)) ≡ after_newest c s (pieces m size recs work) (broken es)
-  breaks es top work t eq = by_newest recs some t
-    where
-      by_newest : (xs : List Record) → 0 < length xs → top ≡ get_or xs 0 blank →
-          counted s (pieces m size recs' work) s.aside_depth s.aside_range (Some (coordinates c.axes (box_of m top) es)) ≡ after_newest c s (pieces m size xs work) (broken es)
-      by_newest [] l q = absurd (omega arith)
-      by_newest (r ∷ rs) l q = ap₂ (λ xs x. counted s (pieces m size xs work) s.aside_depth s.aside_range (Some (coordinates c.axes (box_of m x) es))) eq q
-
-  -- it is halved
-  module _ (j : ℕ) (h : Half) (inside : j < m) where
-    half_piece : (t : Half) (r : Record) (old new : List Pair) → j < length r.halvings → j < length r.places → new ≡ flat_half pairs t (degrees_of c.axes) j old →
-        ◌≡◌ {A = Piece} (record { box = box_of m (half_record t j r); patch = new }) (half_of c t j (record { box = box_of m r; patch = old }))
-    unfolding half_of
-    half_piece t r old new a b e = ap₂ (λ x y. record { box = x; patch = y }) (half_record_has_half_box m t j r inside a b) e
-
-    pub splits : (start : ℕ) (old new : List Pair) → start ≡ (length recs - 1) * size → j < length (get_or recs 0 blank).halvings → j < length (get_or recs 0 blank).places →
-        recs' ≡ half_record h j (get_or recs 0 blank) ∷ half_record (other h) j (get_or recs 0 blank) ∷ rest recs → SideBySide (degrees_of c.axes) j h start size old new →
-        counted s (pieces m size recs' new) s.aside_depth s.aside_range s.corner
-        ≡ after_newest c s (pieces m size recs old) (halves c h j (record { box = box_of m (get_or recs 0 blank); patch = part start size old }))
-    splits start old new at a b eq side = by_newest recs some at a b eq
-      where
-        by_newest : (xs : List Record) → 0 < length xs → start ≡ (length xs - 1) * size → j < length (get_or xs 0 blank).halvings → j < length (get_or xs 0 blank).places →
-            recs' ≡ half_record h j (get_or xs 0 blank) ∷ half_record (other h) j (get_or xs 0 blank) ∷ rest xs →
-            counted s (pieces m size recs' new) s.aside_depth s.aside_range s.corner
-            ≡ after_newest c s (pieces m size xs old) (halves c h j (record { box = box_of m (get_or xs 0 blank); patch = part start size old }))
-        by_newest [] l t p q u = absurd (omega arith)
-        by_newest (r ∷ rs) l t p q u =
-            let i : ℕ = length rs in
-            let z : suc i - 1 ≡ i = omega arith in
-            let v : start ≡ i * size = t ∙ ap (λ n. n * size) z in
-            let one : part (suc i * size) size new ≡ flat_half pairs h (degrees_of c.axes) j (part start size old) = ap (λ n. part n size new) (suc-mul i size ∙ ap (λ n. n + size) (sym v)) ∙ side.first_half in
-            let two : part (i * size) size new ≡ flat_half pairs (other h) (degrees_of c.axes) j (part start size old) = ap (λ n. part n size new) (sym v) ∙ side.second_half in
-            let others : pieces m size rs new ≡ pieces m size rs old = earlier_stay m size i rs old new (omega arith) (ap (λ n. take n new) (sym v) ∙ side.before ∙ ap (λ n. take n old) v) in
-            let first = half_piece h r (part start size old) (part (suc i * size) size new) p q one in
-            let second = half_piece (other h) r (part start size old) (part (i * size) size new) p q two in
-            ap (λ xs. counted s (pieces m size xs new) s.aside_depth s.aside_range s.corner) u
-            ∙ ap (λ x. counted s (x ∷ piece_in m size (half_record (other h) j r) i new ∷ pieces m size rs new) s.aside_depth s.aside_range s.corner) first
-            ∙ ap₂ (λ y ys. counted s (half_of c h j (record { box = box_of m r; patch = part start size old }) ∷ y ∷ ys) s.aside_depth s.aside_range s.corner) second others
+-- ---- the newest piece is halved
+pub halves_stand_first : (c : Content) (m size : ℕ) (r : Record) (rs : List Record) (j : ℕ) (h : Half) (old new : List Pair) →
+    SideBySide (degrees_of c.axes) j h (length rs * size) size old new →
+    pieces m size (half_box h j r ∷ half_box (other h) j r ∷ rs) new ≡ half_of c h j (piece_in m size r (length rs) old) ∷ half_of c (other h) j (piece_in m size r (length rs) old) ∷ pieces m size rs old
+unfolding half_of
+halves_stand_first c m size r rs j h old new side =
+    let i : ℕ = length rs in
+    let one : part (suc i * size) size new ≡ flat_half pairs h (degrees_of c.axes) j (part (i * size) size old) = ap (λ n. part n size new) (suc-mul i size) ∙ side.first_half in
+    ap₂ ◌∷◌ (half_piece h (part (suc i * size) size new) one)
+    (ap₂ ◌∷◌ (half_piece (other h) (part (i * size) size new) side.second_half) (earlier_stay m size i rs old new (omega arith) side.before))
+  where
+    half_piece : (t : Half) (patch : List Pair) → patch ≡ flat_half pairs t (degrees_of c.axes) j (part (length rs * size) size old) →
+        ◌≡◌ {A = Piece} (record { box = box_of m (half_box t j r); patch = patch }) (half_of c t j (piece_in m size r (length rs) old))
+    half_piece t patch e = ap₂ (λ x y. record { box = x; patch = y }) (half_has_box m t j r) e

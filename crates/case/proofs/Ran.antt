@@ -1,7 +1,8 @@
 -- Runs of a case, and why they are refused.
-use Rattle.std.proofs.Common.{◌≡◌, ℕ, zero, suc, ◌+◌, ◌-◌, ◌*◌, ◌<◌, ◌≤◌, Bool, true, false, cond, not, ◌&&◌, leb, List, [], ◌∷◌, length, is_some, Some, None, sym, refl, ap, ◌∙◌, arith}
-use Rattle.std.proofs.lemmas.Bool.{leb-true, le-leb}
+use Rattle.std.proofs.Common.{◌≡◌, ℕ, suc, ◌+◌, ◌-◌, ◌*◌, ◌<◌, ◌≤◌, Bool, true, false, cond, not, leb, List, [], ◌∷◌, length, is_some, Some, None, sym, refl, ap, ◌∙◌, arith}
+use Rattle.std.proofs.lemmas.Bool.{leb-true}
 use Rattle.algebra.specs.Pair.{Pair}
+use Rattle.number.specs.declared.number.Number.{Ghosts}
 use Rattle.ticket.specs.Sizes.{patch_count}
 use Rattle.ticket.specs.WellFormed.{Content}
 use Rattle.chooser.specs.Choice.{Meaning}
@@ -10,18 +11,14 @@ use Rattle.search.specs.Calls.{ran, is_running, is_run, has_room, checked, refus
 use Rattle.search.specs.declared.word.Word.TheVariants.{Running}
 use Rattle.search.specs.declared.call.Call.TheVariants.{Run}
 use Rattle.search.specs.declared.call.CallRefusal.TheVariants.{Workspace, RunCount, NotRunning}
-use Rattle.search.specs.Courses.{ceiling}
 use Rattle.search.proofs.Bounds.{steps_same_depth}
 use Rattle.search.proofs.Keeping.{void}
 use Rattle.search.proofs.Replies.{run_examines}
 use Rattle.search.proofs.Steps.{one_examined}
-use Rattle.case.specs.Held.{held}
 use Rattle.case.specs.Model.{ticket_of, piece_in, pieces, model}
 use Rattle.case.specs.declared.record.Record.{Record}
 use Rattle.case.specs.declared.case.Case.{Case}
-use Rattle.case.proofs.Newest.{as_many_newest}
-use Rattle.case.proofs.Soundness.{sound_within_ceiling}
-use Rattle.case.proofs.Standing.{axes, some_held}
+use Rattle.case.proofs.Standing.{axes}
 
 -- ---- room
 pub room_by_size : (c : Content) (len d size : ℕ) → size ≡ patch_count c.axes → leb ((d + 3) * size) len ≡ has_room c len d
@@ -32,33 +29,23 @@ pub room_is_there : (c : Content) (len d : ℕ) → has_room c len d ≡ true �
 unfolding has_room
 room_is_there c len d e = leb-true ((d + 3) * patch_count c.axes) len e
 
--- ---- how many boxes a run may ask for
-pub may_be_run : (n : ℕ) → (n ≡ 0 → ⊥) → n ≤ 65535 → is_run n ≡ true
-may_be_run n a b =
-    let l : 1 ≤ n = omega (arith, some n a) in
-    ap (λ x. x && leb n 65535) (le-leb 1 n l) ∙ le-leb n 65535 b
-  where
-    some : (n : ℕ) → (n ≡ 0 → ⊥) → 1 ≤ n
-    some zero a = absurd (a refl)
-    some (suc n) a = omega arith
-
 -- ---- boxes that wait
-module _ {K : Type 0} (k : Case K) (work : List Pair) where
-  pub none_waits : k.waiting.len ≡ 0 → (model k work).waiting ≡ []
-  none_waits e = ap (λ n. pieces (axes k) k.size n work) (no_record (held k.waiting) (omega (arith, as_many_newest k.waiting.len k.waiting.records)))
+module _ {K : Type 0} {N : Ghosts K} (k : Case K N) (work : List Pair) where
+  pub none_waits : length k.waiting ≡ 0 → (model k work).waiting ≡ []
+  none_waits e = ap (λ n. pieces (axes k) k.size n work) (no_record k.waiting (omega arith))
     where
       no_record : (rs : List Record) → length rs ≤ 0 → rs ≡ []
       no_record [] l = refl
       no_record (r ∷ rs) l = absurd (omega arith)
 
-  pub word_while_waiting : 0 < k.waiting.len → Running ≡ word (model k work)
-  word_while_waiting l = by_record (held k.waiting) (some_held k l)
+  pub word_while_waiting : 0 < length k.waiting → Running ≡ word (model k work)
+  word_while_waiting l = by_record k.waiting l
     where
       by_record : (rs : List Record) → 0 < length rs → Running ≡ word_of (pieces (axes k) k.size rs work) (model k work).corner (k.aside_depth + k.aside_range)
       by_record [] l = absurd (omega arith)
       by_record (r ∷ rs) l = refl
 
-  running : 0 < k.waiting.len → is_running (word (model k work)) ≡ true
+  running : 0 < length k.waiting → is_running (word (model k work)) ≡ true
   running l = ap is_running (sym (word_while_waiting l))
 
   -- ---- refusals of a run
@@ -67,10 +54,10 @@ module _ {K : Type 0} (k : Case K) (work : List Pair) where
     by_room p q r s = rw (p, q, s)
 
     module _ (counted : is_run n ≡ true) where
-      pub refused_room : 0 < k.waiting.len → has_room (ticket_of k) len k.depth ≡ false → Some Workspace ≡ refusal (ticket_of k) len (model k work) (Run n)
+      pub refused_room : 0 < length k.waiting → has_room (ticket_of k) len k.depth ≡ false → Some Workspace ≡ refusal (ticket_of k) len (model k work) (Run n)
       refused_room l e = sym (by_room counted (running l) false e)
 
-      pub not_refused : 0 < k.waiting.len → has_room (ticket_of k) len k.depth ≡ true → None ≡ refusal (ticket_of k) len (model k work) (Run n)
+      pub not_refused : 0 < length k.waiting → has_room (ticket_of k) len k.depth ≡ true → None ≡ refusal (ticket_of k) len (model k work) (Run n)
       not_refused l e = sym (by_room counted (running l) true e)
 
 -- ---- counting
@@ -86,8 +73,8 @@ module _ (c : Content) (limit : ℕ) (μ : Meaning) where
   pub step_keeps_depth : (s t : Search) → t ≡ step c limit μ s → t.depth ≡ s.depth
   step_keeps_depth s t e = ap (λ x. x.depth) e ∙ steps_same_depth c limit μ 1 s
 
-  pub step_counts : {K : Type 0} (k : Case K) (work : List Pair) → 0 < k.waiting.len → (step c limit μ (model k work)).examined ≡ k.examined + 1
-  step_counts k work l = by_record (held k.waiting) (some_held k l)
+  pub step_counts : {K : Type 0} {N : Ghosts K} (k : Case K N) (work : List Pair) → 0 < length k.waiting → (step c limit μ (model k work)).examined ≡ k.examined + 1
+  step_counts k work l = by_record k.waiting l
     where
       by_record : (rs : List Record) → 0 < length rs → (step_over c limit μ (model k work) (pieces (axes k) k.size rs work)).examined ≡ k.examined + 1
       by_record [] l = absurd (omega arith)
@@ -110,7 +97,3 @@ module _ (c : Content) (limit : ℕ) (μ : Meaning) where
         by_tests true true false e = absurd (void (cc))
         by_tests true false r e = absurd (void (cc))
         by_tests false b r e = absurd (void (cc))
-
--- ---- the ceiling
-pub examined_within_ceiling : {K : Type 0} (k : Case K) → k.examined ≤ ceiling k.depth
-examined_within_ceiling k = sound_within_ceiling (axes k) k.depth k.examined k.aside_depth k.aside_range (held k.waiting) k.corner k.found k.sound

@@ -1,87 +1,88 @@
--- What is known of a case in which a box waits.
-use Rattle.std.proofs.Common.{◌≡◌, ℕ, suc, ◌+◌, ◌^◌, ◌<◌, ◌≤◌, true, ◌&&◌, leb, [], ◌∷◌, length, get_or, Some, arith, pow_mono}
+-- What is known of a case, and of its newest box.
+use Rattle.std.proofs.Common.{◌≡◌, ℕ, suc, ◌+◌, ◌-◌, ◌^◌, ◌<◌, ◌≤◌, true, ◌&&◌, leb, List, [], ◌∷◌, length, Some, slice_get, sym, ap, ◌∙◌, subst, arith, pow_mono}
+use mathlib.Core.Logic.{∥∥₁_elim, ∥∥₁_map}
+use native.Mathlib.Bridge.{le_prop}
+use lib.ListN.{length-map}
 use Rattle.std.proofs.lemmas.Bool.{and_parts, leb-true}
-use Rattle.algebra.specs.Form.{other}
 use Rattle.algebra.specs.declared.half.Half.{Half}
+use Rattle.number.specs.declared.number.Number.{Ghosts}
 use Rattle.ticket.specs.Numbers.{is_depth}
 use Rattle.ticket.specs.Sizes.{rest}
 use Rattle.ticket.specs.WellFormed.{Content, Formed, all, axis_formed, term_formed}
 use Rattle.search.specs.Search.{level}
-use Rattle.case.specs.Records.{box_of, half_record}
-use Rattle.case.specs.Held.{held, newest_of}
+use Rattle.search.specs.Courses.{ceiling}
+use Rattle.search.proofs.Bounds.{ceiling_below}
+use Rattle.search.proofs.Orderly.{full_is_ceiling, full_some}
+use Rattle.case.specs.Records.{box_of}
+use Rattle.case.specs.Held.{newest_halved}
 use Rattle.case.specs.Sound.{Sound}
 use Rattle.case.specs.Model.{ticket_of}
 use Rattle.case.specs.declared.record.Record.{Record}
-use Rattle.case.specs.declared.waiting.Waiting.{Waiting}
 use Rattle.case.specs.declared.case.Case.{Case}
-use Rattle.case.proofs.Newest.{as_many_newest}
-use Rattle.case.proofs.Soundness.{left_stays_sound, refuted_stays_sound, split_stays_sound, few_set_aside, one_more_fits, few_wait, newest_is_shallow, newest_has_halvings, newest_has_places, newest_place_below, newest_halved_at_most}
+use Rattle.case.proofs.Newest.{newest_and_older}
+use Rattle.case.proofs.Soundness.{left_is_sound, refuted_is_sound, halves_are_sound}
 
 module _ (c : Content) (formed : Formed c) where
   axes_counted : (leb 1 (length c.axes) && leb (length c.axes) 4) ≡ true
   axes_counted = (and_parts (leb 1 (length c.axes) && leb (length c.axes) 4) (leb (length c.terms) 128 && (all axis_formed c.axes && (all (term_formed c.axes) c.terms && is_depth c.depth))) formed).0
 
-  pub some_axes : 1 ≤ length c.axes
-  some_axes = leb-true 1 (length c.axes) (and_parts (leb 1 (length c.axes)) (leb (length c.axes) 4) axes_counted).0
-
   pub at_most_four_axes : length c.axes ≤ 4
   at_most_four_axes = leb-true (length c.axes) 4 (and_parts (leb 1 (length c.axes)) (leb (length c.axes) 4) axes_counted).1
 
-module _ {K : Type 0} (k : Case K) where
+module _ {K : Type 0} {N : Ghosts K} (k : Case K N) where
   abbrev pub axes : ℕ
   axes = length (ticket_of k).axes
 
   pub few_axes : axes ≤ 4
   few_axes = at_most_four_axes (ticket_of k) k.ticket.ticket.formed
 
-  module _ (waits : 0 < k.waiting.len) where
-    pub some_held : 0 < length (held k.waiting)
-    some_held = omega (arith, as_many_newest k.waiting.len k.waiting.records)
+  pub few_set_aside : k.aside_depth + k.aside_range ≤ k.examined
+  few_set_aside = ∥∥₁_elim k.sound le_prop (λ t. t.aside)
+
+  pub examined_within_ceiling : k.examined ≤ ceiling k.depth
+  examined_within_ceiling = ∥∥₁_elim k.sound le_prop (λ t. omega (arith, t.within, full_is_ceiling k.depth))
+
+  -- its newest box, and those that were put waiting before it
+  module _ (r : Record) (on_top : slice_get k.waiting 0 ≡ Some r) where
+    abbrev pub older : List Record
+    older = rest k.waiting
+
+    pub one_and_older : k.waiting ≡ r ∷ older
+    one_and_older = newest_and_older k.waiting r on_top
+
+    sound_on_top : ∥ Sound axes k.depth (r ∷ older) k.examined k.aside_depth k.aside_range k.corner k.found ∥₁
+    sound_on_top = subst (λ rs. ∥ Sound axes k.depth rs k.examined k.aside_depth k.aside_range k.corner k.found ∥₁) one_and_older k.sound
 
     pub examined_fits : k.examined + 1 < 2 ^ 32
-    examined_fits = one_more_fits axes k.depth k.examined k.aside_depth k.aside_range (held k.waiting) k.corner k.found k.sound some_held k.bounded
-
-    set_aside_within : k.aside_depth + k.aside_range ≤ k.examined
-    set_aside_within = few_set_aside axes k.depth k.examined k.aside_depth k.aside_range (held k.waiting) k.corner k.found k.sound
+    examined_fits =
+        let l : k.examined + 1 ≤ ceiling k.depth = ∥∥₁_elim sound_on_top le_prop (λ t. omega (arith, t.within, full_some (k.depth - level (box_of axes r)), full_is_ceiling k.depth)) in
+        omega (arith, ceiling_below k.depth k.bounded, pow_mono {i = 25} {j = 32} (let l : 25 ≤ 32 = omega arith in l))
 
     pub aside_depth_fits : k.aside_depth + 1 < 2 ^ 32
-    aside_depth_fits = omega (arith, set_aside_within, examined_fits)
+    aside_depth_fits = omega (arith, few_set_aside, examined_fits)
 
     pub aside_range_fits : k.aside_range + 1 < 2 ^ 32
-    aside_range_fits = omega (arith, set_aside_within, examined_fits)
+    aside_range_fits = omega (arith, few_set_aside, examined_fits)
 
-    pub shallow : level (box_of axes (newest_of k.waiting)) ≤ k.depth
-    shallow = newest_is_shallow axes k.depth k.examined k.aside_depth k.aside_range (held k.waiting) k.corner k.found k.sound some_held
+    pub shallow : level (box_of axes r) ≤ k.depth
+    shallow = ∥∥₁_elim sound_on_top le_prop (λ t. t.stacked.0.shallow)
 
-    pub fewer_wait_than_halved : k.waiting.len ≤ suc (level (box_of axes (newest_of k.waiting)))
-    fewer_wait_than_halved = omega (arith, as_many_newest k.waiting.len k.waiting.records, few_wait axes k.depth k.examined k.aside_depth k.aside_range (held k.waiting) k.corner k.found k.sound some_held)
-
-    pub table_holds : k.waiting.len ≤ 25
-    table_holds = omega (arith, fewer_wait_than_halved, shallow, k.bounded)
-
-    pub four_halvings : length (newest_of k.waiting).halvings ≡ 4
-    four_halvings = newest_has_halvings axes k.depth k.examined k.aside_depth k.aside_range (held k.waiting) k.corner k.found k.sound some_held
-
-    pub four_places : length (newest_of k.waiting).places ≡ 4
-    four_places = newest_has_places axes k.depth k.examined k.aside_depth k.aside_range (held k.waiting) k.corner k.found k.sound some_held
-
-    pub halved_at_most_24 : (j : ℕ) → j < axes → get_or (newest_of k.waiting).halvings j 0 ≤ 24
-    halved_at_most_24 j l = omega (arith, newest_halved_at_most axes k.depth k.examined k.aside_depth k.aside_range (held k.waiting) k.corner k.found k.sound some_held j l, k.bounded)
-
-    pub place_may_double : (j : ℕ) → j < axes → get_or (newest_of k.waiting).places j 0 < 2 ^ 31
-    place_may_double j l =
-        omega (arith, newest_place_below axes k.depth k.examined k.aside_depth k.aside_range (held k.waiting) k.corner k.found k.sound some_held j l, pow_mono {i = get_or (newest_of k.waiting).halvings j 0} {j = 24} (halved_at_most_24 j l))
+    pub fewer_older_than_halvings : length older ≤ level (box_of axes r)
+    fewer_older_than_halvings = ∥∥₁_elim sound_on_top le_prop (λ t. omega (arith, t.stacked.0.deep, length-map older (box_of axes)))
 
     -- ---- it stays sound
-    pub left_sound : (w : Waiting) (deep large : ℕ) → held w ≡ rest (held k.waiting) → deep + large ≤ suc (k.aside_depth + k.aside_range) →
-        ∥ Sound axes k.depth (held w) (k.examined + 1) deep large k.corner k.found ∥₁
-    left_sound w deep large = left_stays_sound axes k.depth k.examined k.aside_depth k.aside_range (held k.waiting) (held w) k.corner k.found k.sound some_held deep large
+    module _ (rs : List Record) where
+      pub left_sound : (deep large : ℕ) → rs ≡ older → deep + large ≤ suc (k.aside_depth + k.aside_range) → ∥ Sound axes k.depth rs (k.examined + 1) deep large k.corner k.found ∥₁
+      left_sound deep large e h =
+          subst (λ xs. ∥ Sound axes k.depth xs (k.examined + 1) deep large k.corner k.found ∥₁) (sym e)
+          (∥∥₁_map sound_on_top (λ t. left_is_sound axes k.depth k.examined k.aside_depth k.aside_range r older k.corner k.found t deep large h))
 
-    pub refuted_sound : (w : Waiting) (n : ℕ) (top : Record) → top ≡ newest_of k.waiting → held w ≡ [] →
-        ∥ Sound axes k.depth (held w) (k.examined + 1) k.aside_depth k.aside_range (Some n) top ∥₁
-    refuted_sound w = refuted_stays_sound axes k.depth k.examined k.aside_depth k.aside_range (held k.waiting) (held w) k.corner k.found k.sound some_held
+      pub refuted_sound : (n : ℕ) → rs ≡ [] → ∥ Sound axes k.depth rs (k.examined + 1) k.aside_depth k.aside_range (Some n) r ∥₁
+      refuted_sound n e =
+          subst (λ xs. ∥ Sound axes k.depth xs (k.examined + 1) k.aside_depth k.aside_range (Some n) r ∥₁) (sym e)
+          (∥∥₁_map sound_on_top (λ t. refuted_is_sound axes k.depth k.examined k.aside_depth k.aside_range r older k.corner k.found t n))
 
-    pub split_sound : (w : Waiting) (j : ℕ) (h : Half) → j < axes → level (box_of axes (newest_of k.waiting)) < k.depth →
-        held w ≡ half_record h j (newest_of k.waiting) ∷ half_record (other h) j (newest_of k.waiting) ∷ rest (held k.waiting) →
-        ∥ Sound axes k.depth (held w) (k.examined + 1) k.aside_depth k.aside_range k.corner k.found ∥₁
-    split_sound w j h inside = split_stays_sound axes k.depth k.examined k.aside_depth k.aside_range (held k.waiting) (held w) k.corner k.found k.sound some_held j h inside few_axes
+      pub split_sound : (j : ℕ) (h : Half) → j < axes → level (box_of axes r) < k.depth → rs ≡ newest_halved h j k.waiting → ∥ Sound axes k.depth rs (k.examined + 1) k.aside_depth k.aside_range k.corner k.found ∥₁
+      split_sound j h inside deeper e =
+          subst (λ xs. ∥ Sound axes k.depth xs (k.examined + 1) k.aside_depth k.aside_range k.corner k.found ∥₁) (sym (e ∙ ap (newest_halved h j) one_and_older))
+          (∥∥₁_map sound_on_top (λ t. halves_are_sound axes k.depth k.examined k.aside_depth k.aside_range r older k.corner k.found t j inside deeper h))

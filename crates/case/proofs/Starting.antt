@@ -2,6 +2,7 @@
 use Rattle.std.proofs.Common.{◌≡◌, ℕ, ◌≤◌, List, [], ◌∷◌, length, None, sym, refl, ap, ◌∙◌, subst, inr, zero-mul, arith}
 use native.Mathlib.Nat.{sub-zero}
 use Rattle.std.specs.List.{AllByRecursion}
+use Rattle.std.proofs.lemmas.List.{length-take-le}
 use Rattle.algebra.specs.Pair.{Pair}
 use Rattle.ticket.specs.WellFormed.{Content}
 use Rattle.ticket.specs.declared.records.Axis.{Axis}
@@ -13,10 +14,9 @@ use Rattle.search.specs.Search.{level, whole}
 use Rattle.search.proofs.Orderly.{Waits}
 use Rattle.search.proofs.Pieces.{whole_level}
 use Rattle.case.specs.Records.{box_of, whole_record}
-use Rattle.case.specs.Sound.{Four, Sound}
+use Rattle.case.specs.Sound.{Sound}
 use Rattle.case.specs.Model.{pieces}
 use Rattle.case.specs.declared.record.Record.{Record}
-use Rattle.case.proofs.BoxOf.{part_for_each}
 
 whole_record_has_whole_box : (axes : List Axis) → length axes ≤ 4 → box_of (length axes) whole_record ≡ whole_box axes
 whole_record_has_whole_box [] l = refl
@@ -32,25 +32,20 @@ module _ (axes : List Axis) (few : length axes ≤ 4) where
 
   whole_waits : (d : ℕ) → Waits (length axes) d 0 (box_of (length axes) whole_record)
   whole_waits d = record {
-    part_for_each = part_for_each (length axes) whole_record.halvings whole_record.places;
+    part_for_each = length-take-le (length axes) whole_record few;
     placed = subst (AllByRecursion Placed) (sym (whole_record_has_whole_box axes few)) (whole_is_placed axes);
     shallow = omega (arith, not_halved);
     deep = omega arith;
   }
 
-  whole_is_four : Four whole_record
-  whole_is_four = record { halvings = refl; places = refl }
-
-  pub start_is_sound : (d : ℕ) (recs : List Record) → recs ≡ whole_record ∷ [] → ∥ Sound (length axes) d recs 0 0 0 None whole_record ∥₁
-  start_is_sound d recs e = subst (λ xs. ∥ Sound (length axes) d xs 0 0 0 None whole_record ∥₁) (sym e) ∣ record {
-    fours = (whole_is_four, tt);
+  pub start_is_sound : (d : ℕ) (recs : List Record) (r : Record) → r ≡ whole_record → recs ≡ r ∷ [] → ∥ Sound (length axes) d recs 0 0 0 None r ∥₁
+  start_is_sound d recs r q e = subst (λ xs. ∥ Sound (length axes) d xs 0 0 0 None r ∥₁) (sym e) (subst (λ x. ∥ Sound (length axes) d (x ∷ []) 0 0 0 None x ∥₁) (sym q) ∣ record {
     stacked = (whole_waits d, tt);
     within = rw (not_halved, sub-zero) (omega arith);
     aside = omega arith;
     uncornered = inr refl;
-    four = whole_is_four;
     placed = whole_waits d;
-  } ∣₁
+  } ∣₁)
 
 pub whole_waits_first : (c : Content) → length c.axes ≤ 4 → (size : ℕ) (recs : List Record) (work : List Pair) → recs ≡ whole_record ∷ [] → part 0 size work ≡ first_patch (turned c) →
     pieces (length c.axes) size recs work ≡ whole c ∷ []

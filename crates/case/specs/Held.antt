@@ -1,16 +1,16 @@
 -- The records of a table of waiting boxes, the newest first.
 use Rattle.std.specs.Prelude.{ℕ, zero, suc, List, [], ◌∷◌, slice_index_or}
+use Rattle.algebra.specs.Form.{other}
+use Rattle.algebra.specs.declared.half.Half.{Half}
+use Rattle.patch.specs.Box.{half_box}
 use Rattle.case.specs.Records.{blank}
 use Rattle.case.specs.declared.record.Record.{Record}
-use Rattle.case.specs.declared.waiting.Waiting.{Waiting}
 
 abbrev pub newest_first : ℕ → List Record → List Record
 newest_first zero rs = []
 newest_first (suc n) rs = slice_index_or rs n blank ∷ newest_first n rs
 
-abbrev pub held : Waiting → List Record
-held w = newest_first w.len w.records
-
--- the one that was put waiting last
-abbrev pub newest_of : Waiting → Record
-newest_of w = slice_index_or (held w) 0 blank
+-- the newest is halved along axis j, and the half named first waits above the other
+abbrev pub newest_halved : Half → ℕ → List Record → List Record
+newest_halved first j [] = []
+newest_halved first j (r ∷ rs) = half_box first j r ∷ half_box (other first) j r ∷ rs

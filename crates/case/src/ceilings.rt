@@ -1,6 +1,6 @@
 // How many boxes a search can examine.
 ghost use Rattle.std.specs.Prelude.{◌≡◌};
-ghost use Rattle.search.specs.Courses.{ceiling as ceiling_of};
+ghost use Rattle.search.specs.Courses.{ceiling};
 
 use crate::case::Case;
 use number::Number;
@@ -14,7 +14,7 @@ const CEILINGS: [u32; 25] = [
 impl<K: Number> Case<K> {
     // The ceiling of the case's depth: all runs at that depth together examine no more boxes.
     pub fn ceiling(&self) -> u32
-        ensures { result ≡ ceiling_of self.now.depth }
+        ensures { result ≡ ceiling self.now.depth }
     {
         CEILINGS[self.depth as usize]
     }

@@ -1,7 +1,8 @@
 // Starting anew at a greater depth.
-ghost use Rattle.std.specs.Prelude.{◌≡◌, ◌≤◌, true, List, map, length, MatchResult};
+ghost use Rattle.std.specs.Prelude.{◌≡◌, ◌≤◌, List, map, length, OnErr};
+ghost use Rattle.std.specs.Result.{result_err};
 ghost use Rattle.algebra.specs.Pair.{Pair};
-ghost use Rattle.patch.specs.FirstPatch.{turned, first_patch, all_carried};
+ghost use Rattle.patch.specs.FirstPatch.{turned, first_patch};
 ghost use Rattle.patch.specs.Halving.{part};
 ghost use Rattle.chooser.specs.Choice.{Meaning};
 ghost use Rattle.search.specs.Search.{start};
@@ -17,20 +18,19 @@ use search::{CallRefusal, Word};
 
 impl<K: Number> Case<K> {
     // The first refusal that applies to a deepening.
-    fn deepen_refusal(&self, depth: u32, length: usize) -> Option<CallRefusal>
-        ensures { (work : List Pair) → result ≡ refusal (ticket_of self.now) length (model self.now work) (Deepen depth) }
+    fn check_deepen(&self, depth: u32, length: usize) -> Result<(), CallRefusal>
+        ensures { (work : List Pair) → result_err result ≡ refusal (ticket_of self.now) length (model self.now work) (Deepen depth) }
     {
-        match self.word() {
-            Word::Open => {}
-            Word::Running | Word::Fails | Word::Holds => return Some(CallRefusal::NotOpen),
+        if self.word() != Word::Open {
+            return Err(CallRefusal::NotOpen);
         }
         if depth <= self.depth || depth > 24 {
-            return Some(CallRefusal::NotDeeper);
+            return Err(CallRefusal::NotDeeper);
         }
         if !self.has_room(length, depth) {
-            return Some(CallRefusal::Workspace);
+            return Err(CallRefusal::Workspace);
         }
-        None
+        Ok(())
     }
 
     // The whole box waits at this depth, and nothing is known of it: the search stands at its start as soon as the first patch is written.
@@ -39,10 +39,7 @@ impl<K: Number> Case<K> {
         ensures starts { (work : List Pair) → part 0 self.old.size work ≡ first_patch (turned (ticket_of self.old)) → model self.new work ≡ start (ticket_of self.old) depth }
         ensures same { ticket_of self.new ≡ ticket_of self.old }
     {
-        let whole = Record {
-            halvings: [0; 4],
-            places: [0; 4],
-        };
+        let whole = Record::whole();
         self.depth = depth;
         self.waiting.clear();
         self.waiting.push(whole);
@@ -54,21 +51,15 @@ impl<K: Number> Case<K> {
     }
 
     // Starts the search anew at a greater depth: the workspace then starts with the first patch, and its rest is free. It answers the
-    // depth. A refusal changes nothing. A kind of number that does not carry the ticket's drifts cannot hold its first patch: for such
-    // a case, which is never taken, nothing is promised but that the deepening is refused.
+    // depth. A refusal changes nothing.
     pub fn deepen(&mut self, depth: u32, work: &mut [K]) -> Result<u32, CallRefusal>
-        ensures answer { all_carried K.drifts (ticket_of self.old).terms ≡ true → (μ : Meaning) → deepen_reply result ≡ reply (ticket_of self.old) K.limit μ (length work.old) (model self.old (map K.means work.old)) (Deepen depth) }
-        ensures next { all_carried K.drifts (ticket_of self.old).terms ≡ true → (μ : Meaning) → model self.new (map K.means work.new) ≡ next (ticket_of self.old) K.limit μ (length work.old) (model self.old (map K.means work.old)) (Deepen depth) }
-        ensures refused { MatchResult result (λ _. all_carried K.drifts (ticket_of self.old).terms ≡ true) (λ _. (self.new ≡ self.old) × (work.new ≡ work.old)) }
+        ensures answer { (μ : Meaning) → deepen_reply result ≡ reply (ticket_of self.old) K.limit μ (length work.old) (model self.old (map K.means work.old)) (Deepen depth) }
+        ensures next { (μ : Meaning) → model self.new (map K.means work.new) ≡ next (ticket_of self.old) K.limit μ (length work.old) (model self.old (map K.means work.old)) (Deepen depth) }
+        ensures refused { OnErr result ((self.new ≡ self.old) × (work.new ≡ work.old)) }
         ensures same { ticket_of self.new ≡ ticket_of self.old }
     {
-        match self.deepen_refusal(depth, work.len()) {
-            Some(why) => return Err(why),
-            None => {}
-        }
-        if !write_first_patch(&self.ticket, work) {
-            return Err(CallRefusal::Workspace);
-        }
+        self.check_deepen(depth, work.len())?;
+        write_first_patch(&self.ticket, work).unwrap();
         self.restart(depth);
         Ok(depth)
     }

@@ -1,12 +1,12 @@
 // Judging the newest box of a case.
-ghost use Rattle.std.specs.Prelude.{◌≡◌, ◌<◌, ◌≤◌, map, length};
+ghost use Rattle.std.specs.Prelude.{◌≡◌, ◌≤◌, map, length};
 ghost use Rattle.patch.specs.FirstPatch.{turned_relation};
 ghost use Rattle.case.specs.Judgement.{told, judgement};
-ghost use Rattle.case.specs.Model.{ticket_of, newest_with};
+ghost use Rattle.case.specs.Model.{ticket_of, piece_of};
 
-use crate::boxes::{box_ends, level};
 use crate::case::Case;
 use crate::judgement::Judgement;
+use crate::record::{Record, level};
 use algebra::{Half, Sign};
 use chooser::{Chooser, Question};
 use number::Number;
@@ -36,21 +36,25 @@ fn ask<K: Number, C: Chooser>(
     ensures same { C.meaning chooser.new ≡ C.meaning chooser.old }
 {
     let mut signs = [Sign::Zero; 128];
-    let _ = write_signs(patch, &mut signs);
+    write_signs(patch, &mut signs).unwrap();
     chooser.choose(Question {
         degrees,
         halvings,
         depth,
-        signs: &signs[0..patch.len()],
+        signs: &signs[..patch.len()],
     })
 }
 
 impl<K: Number> Case<K> {
     // What the patch of the newest box says of it.
-    pub(crate) fn judge<C: Chooser>(&self, patch: &[K], chooser: &mut C) -> Judgement
-        requires waits { 0 < self.now.waiting.len }
-        requires whole { length patch.now ≡ self.now.size }
-        ensures answer { result ≡ judgement (ticket_of self.now) (C.meaning chooser.old) self.now.depth (newest_with self.now (map K.means patch.now)) }
+    pub(crate) fn judge<C: Chooser>(
+        &self,
+        newest: Record,
+        patch: &[K],
+        chooser: &mut C,
+    ) -> Judgement
+        requires { length patch.now ≡ self.now.size }
+        ensures answer { result ≡ judgement (ticket_of self.now) (C.meaning chooser.old) self.now.depth (piece_of (ticket_of self.now) newest (map K.means patch.now)) }
         ensures same { C.meaning chooser.new ≡ C.meaning chooser.old }
     {
         let relation = turned(self.ticket.ticket.relation);
@@ -58,14 +62,13 @@ impl<K: Number> Case<K> {
             return Judgement::Clear;
         }
         let axes = self.ticket.ticket.axes.as_slice();
-        let newest = self.waiting.top();
-        let degrees = &self.degrees[0..axes.len()];
-        let ends = box_ends(axes, &newest);
-        match broken_corner(relation, degrees, &ends[0..axes.len()], patch) {
-            Some(corner) => return Judgement::Broken(corner),
-            None => {}
+        let degrees = &self.degrees[..axes.len()];
+        let ends = newest.ends(axes);
+        if let Some(corner) = broken_corner(relation, degrees, &ends[..axes.len()], patch) {
+            return Judgement::Broken(corner);
         }
-        let halvings = &newest.halvings[0..axes.len()];
+        let halvings = newest.halvings();
+        let halvings = &halvings[..axes.len()];
         let level = level(halvings);
         if level == self.depth {
             return Judgement::Deep;

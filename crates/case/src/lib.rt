@@ -1,15 +1,13 @@
 // A case: the search for a ticket's answer, box by box, over a workspace that is lent to each call.
 #![tactic(auto)]
 
-mod boxes;
 mod case;
 mod ceilings;
 mod deepening;
 mod judgement;
 mod judging;
-mod outcomes;
+mod part;
 mod record;
 mod running;
-mod table;
 mod telling;
 mod waiting;

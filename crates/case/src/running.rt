@@ -1,59 +1,56 @@
 // Running a case.
-ghost use Rattle.std.specs.Prelude.{◌≡◌, ◌+◌, ◌*◌, ◌<◌, ◌≤◌, List, map, length, MatchResult, slice_index};
+ghost use Rattle.std.specs.Prelude.{◌≡◌, ◌+◌, ◌*◌, ◌≤◌, List, map, length, MatchResult};
+ghost use Rattle.std.specs.Result.{result_err};
 ghost use Rattle.algebra.specs.Pair.{Pair};
-ghost use Rattle.ticket.specs.Sizes.{degrees_of, patch_count};
-ghost use Rattle.patch.specs.Halving.{part};
-ghost use Rattle.patch.specs.Judging.{all_grow};
-ghost use Rattle.search.specs.Search.{level, step, steps};
+ghost use Rattle.ticket.specs.Sizes.{patch_count};
+ghost use Rattle.search.specs.Search.{step, steps};
 ghost use Rattle.search.specs.Calls.{has_room, refusal, examined_by, reply, next};
 ghost use Rattle.search.specs.Courses.{ceiling};
 ghost use Rattle.search.specs.declared.call.Call.TheVariants.{Run};
-ghost use Rattle.case.specs.Records.{box_of};
-ghost use Rattle.case.specs.Held.{newest_of};
-ghost use Rattle.case.specs.Model.{ticket_of, model, newest_with, newest_start, after_newest, halves_or_aside, run_reply};
+ghost use Rattle.case.specs.Model.{ticket_of, model, run_reply};
 
 use crate::case::Case;
 use crate::judgement::Judgement;
-use algebra::Half;
 use chooser::Chooser;
 use number::Number;
 use patch::halve;
 use search::CallRefusal;
 
 impl<K: Number> Case<K> {
-    // Halves the newest box, whose patch begins at `start`, or sets it aside where its numbers may not grow.
-    fn halve_newest(&mut self, work: &mut [K], start: usize, axis: usize, first: Half)
-        requires waits { 0 < self.old.waiting.len }
-        requires begins { start ≡ newest_start self.old }
-        requires inside { axis < length (ticket_of self.old).axes }
-        requires shallow { level (box_of (length (ticket_of self.old).axes) (newest_of self.old.waiting)) < self.old.depth }
-        requires room { (self.old.depth + 3) * self.old.size ≤ length work.old }
-        ensures becomes { model self.new (map K.means work.new) ≡ after_newest (ticket_of self.old) (model self.old (map K.means work.old)) (model self.old (map K.means work.old)).waiting (halves_or_aside (all_grow K.limit (slice_index (degrees_of (ticket_of self.old).axes) axis) (part start self.old.size (map K.means work.old))) (ticket_of self.old) first axis (newest_with self.old (part start self.old.size (map K.means work.old)))) }
-        ensures same { ticket_of self.new ≡ ticket_of self.old }
-    {
-        let axes = self.ticket.ticket.axes.as_slice().len();
-        if halve(work, start, &self.degrees[0..axes], axis, first) {
-            self.split(axis, first);
-        } else {
-            self.set_aside_for_range();
-        }
-    }
-
-    // Examines the newest box.
+    // Examines the newest box, if one waits. A box whose numbers may not grow is set aside.
     fn examine<C: Chooser>(&mut self, work: &mut [K], chooser: &mut C)
-        requires waits { 0 < self.old.waiting.len }
-        requires room { (self.old.depth + 3) * self.old.size ≤ length work.old }
+        requires { (self.old.depth + 3) * self.old.size ≤ length work.old }
         ensures steps { model self.new (map K.means work.new) ≡ step (ticket_of self.old) K.limit (C.meaning chooser.old) (model self.old (map K.means work.old)) }
         ensures same { ticket_of self.new ≡ ticket_of self.old }
         ensures chooses { C.meaning chooser.new ≡ C.meaning chooser.old }
     {
-        let start = (self.waiting.len - 1) * self.size;
-        let end = start + self.size;
-        match self.judge(&work[start..end], chooser) {
-            Judgement::Clear => self.settle(),
-            Judgement::Broken(corner) => self.refute(corner),
-            Judgement::Deep => self.set_aside_for_depth(),
-            Judgement::Undecided(axis, first) => self.halve_newest(work, start, axis, first),
+        let Some(newest) = self.waiting.top() else {
+            return;
+        };
+        let axes = self.ticket.ticket.axes.as_slice().len();
+        let start = (self.waiting.len() - 1) * self.size;
+        let judgement = self.judge(newest, &work[start..start + self.size], chooser);
+        self.examined += 1;
+        match judgement {
+            Judgement::Clear => self.waiting.pop(),
+            Judgement::Broken(corner) => {
+                self.waiting.clear();
+                self.corner = Some(corner);
+                self.found = newest;
+            }
+            Judgement::Deep => {
+                self.waiting.pop();
+                self.aside_depth += 1;
+            }
+            Judgement::Undecided(axis, first) => {
+                match halve(work, start, &self.degrees[..axes], axis, first) {
+                    Ok(()) => self.waiting.halve_top(axis, first),
+                    Err(_) => {
+                        self.waiting.pop();
+                        self.aside_range += 1;
+                    }
+                }
+            }
         }
     }
 
@@ -66,19 +63,19 @@ impl<K: Number> Case<K> {
     }
 
     // The first refusal that applies to a run of n boxes.
-    fn run_refusal(&self, n: u32, length: usize) -> Option<CallRefusal>
-        ensures { (work : List Pair) → result ≡ refusal (ticket_of self.now) length (model self.now work) (Run n) }
+    fn check_run(&self, n: u32, length: usize) -> Result<(), CallRefusal>
+        ensures { (work : List Pair) → result_err result ≡ refusal (ticket_of self.now) length (model self.now work) (Run n) }
     {
-        if n == 0 || n > 65535 {
-            return Some(CallRefusal::RunCount);
+        if !(1..=65535).contains(&n) {
+            return Err(CallRefusal::RunCount);
         }
-        if self.waiting.len == 0 {
-            return Some(CallRefusal::NotRunning);
+        if self.waiting.is_empty() {
+            return Err(CallRefusal::NotRunning);
         }
         if !self.has_room(length, self.depth) {
-            return Some(CallRefusal::Workspace);
+            return Err(CallRefusal::Workspace);
         }
-        None
+        Ok(())
     }
 
     // Examines boxes until n are done or none waits, and answers how many.
@@ -89,15 +86,13 @@ impl<K: Number> Case<K> {
         ensures same { ticket_of self.new ≡ ticket_of self.old }
         ensures chooses { C.meaning chooser.new ≡ C.meaning chooser.old }
     {
-        let mut done: u32 = 0;
-        while done < n {
-            if self.waiting.len == 0 {
+        for done in 0..n {
+            if self.waiting.is_empty() {
                 return done;
             }
             self.examine(work, chooser);
-            done += 1;
         }
-        done
+        n
     }
 
     // Examines up to n boxes, from 1 to 65,535 of them, the one that was put waiting last first, until none waits. It answers how many
@@ -115,9 +110,7 @@ impl<K: Number> Case<K> {
         ensures same { ticket_of self.new ≡ ticket_of self.old }
         ensures chooses { C.meaning chooser.new ≡ C.meaning chooser.old }
     {
-        match self.run_refusal(n, work.len()) {
-            Some(why) => Err(why),
-            None => Ok(self.examine_up_to(n, work, chooser)),
-        }
+        self.check_run(n, work.len())?;
+        Ok(self.examine_up_to(n, work, chooser))
     }
 }

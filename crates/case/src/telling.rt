@@ -1,7 +1,7 @@
 // Where a case stands.
 ghost use Rattle.std.specs.Prelude.{◌≡◌, List};
 ghost use Rattle.algebra.specs.Pair.{Pair};
-ghost use Rattle.search.specs.Search.{word as word_of_search, verdict_of};
+ghost use Rattle.search.specs.Search.{word, verdict_of};
 ghost use Rattle.case.specs.Model.{model};
 
 use crate::case::Case;
@@ -11,15 +11,13 @@ use search::{Verdict, Word};
 impl<K: Number> Case<K> {
     // What is known so far, whatever the workspace holds.
     pub(crate) fn word(&self) -> Word
-        ensures { (work : List Pair) → result ≡ word_of_search (model self.now work) }
+        ensures { (work : List Pair) → result ≡ word (model self.now work) }
     {
-        if self.waiting.len > 0 {
-            return Word::Running;
-        }
-        if self.corner.is_some() {
-            return Word::Fails;
-        }
-        if self.aside_depth + self.aside_range == 0 {
+        if !self.waiting.is_empty() {
+            Word::Running
+        } else if self.corner.is_some() {
+            Word::Fails
+        } else if self.aside_depth + self.aside_range == 0 {
             Word::Holds
         } else {
             Word::Open
@@ -33,7 +31,7 @@ impl<K: Number> Case<K> {
         Verdict {
             word: self.word(),
             examined: self.examined,
-            waiting: self.waiting.len as u32,
+            waiting: self.waiting.len() as u32,
             aside_depth: self.aside_depth,
             aside_range: self.aside_range,
         }

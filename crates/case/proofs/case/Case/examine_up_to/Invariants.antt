@@ -15,6 +15,3 @@ invariant-loop-done g l =
     × (l.self.examined ≡ l.initial.self.examined + l.done)
     × (l.done ≤ l.n)
     × ((l.self.depth + 3) * patch_count c.axes ≤ length l.work)
-
-abbrev pub decreases-loop-done : goal.decreases-loop-done
-decreases-loop-done g l = l.n - l.done

@@ -1,15 +1,14 @@
-use Rattle.std.proofs.Common.{◌≡◌, ◌≤◌, true, false, eqb, map, length, get_or, sym, refl, ap, ◌∙◌, subst, ap₂, arith}
+use Rattle.std.proofs.Common.{◌≡◌, true, false, eqb, map, length, sym, refl, ap, ◌∙◌, ap₂, arith}
 use Rattle.std.proofs.lemmas.Bool.{eq-eqb, ne_eqb}
 use Rattle.ticket.specs.Sizes.{degrees_of}
 use Rattle.patch.specs.FirstPatch.{turned}
-use Rattle.patch.specs.Judging.{all_satisfy}
+use Rattle.patch.specs.Point.{sum_of}
 use Rattle.search.specs.Search.{level, halvings_of}
 use Rattle.case.specs.Records.{box_of}
-use Rattle.case.specs.Held.{newest_of}
 use Rattle.case.specs.Judgement.{told}
-use Rattle.case.specs.Model.{ticket_of, newest_with}
-use Rattle.case.proofs.Standing.{axes, few_axes, table_holds, four_halvings, four_places, halved_at_most_24}
-use Rattle.case.proofs.Lent.{degrees_lent, halvings_lent, level_lent, lowest_lent}
+use Rattle.case.specs.Model.{ticket_of, piece_of}
+use Rattle.case.proofs.Standing.{axes, few_axes}
+use Rattle.case.proofs.Lent.{turned_satisfies, degrees_lent, halvings_lent, lowest_lent}
 use Rattle.case.proofs.Found.{clear_is_found, violation_is_found, depth_is_found, choice_is_found}
 use Rattle.case.proofs.case.Case.judge.Goals as goal
 
@@ -17,40 +16,28 @@ pub returns-then-all_satisfy : goal.returns-then-all_satisfy
 returns-then-all_satisfy g c =
     let k = c.args.self.now in
     let b = map g.K.Number.means c.args.patch.now in
-    let e : all_satisfy (turned (ticket_of k)).relation b ≡ true = sym (ap (λ r. all_satisfy r b) c.turned-relation.ensures) ∙ sym c.all_satisfy.ensures.answer ∙ c.if-all_satisfy.true in
-    record { answer = clear_is_found (ticket_of k) (g.C.Chooser.meaning c.args.chooser.now) k.depth (newest_with k b) e; same = refl }
+    let e = turned_satisfies c.turned-relation.result (turned (ticket_of k)).relation b c.all_satisfy.result true c.turned-relation.ensures c.all_satisfy.ensures.answer c.if-all_satisfy.true in
+    record { answer = clear_is_found (ticket_of k) (g.C.Chooser.meaning c.args.chooser.now) k.depth (piece_of (ticket_of k) c.args.newest b) e; same = refl }
 
-pub top-newest-requires : goal.top-newest-requires
-top-newest-requires g c = record { some = c.requires.waits; room = table_holds c.args.self.now c.requires.waits }
-
-pub box_ends-ends-requires : goal.box_ends-ends-requires
-box_ends-ends-requires g c =
-    let k = c.args.self.now in
-    let w = c.requires.waits in
-    let n : length c.as_slice-axes.result.now ≡ axes k = ap length c.as_slice-axes.ensures.value in
-    let h : length c.top-newest.result.halvings ≡ 4 = ap (λ r. length r.halvings) c.top-newest.ensures ∙ four_halvings k w in
-    let p : length c.top-newest.result.places ≡ 4 = ap (λ r. length r.places) c.top-newest.ensures ∙ four_places k w in
-    record {
-      few = (omega (arith, few_axes k), (omega (arith, few_axes k), omega (arith, few_axes k)));
-      shallow = λ j l. subst (λ r. get_or r.halvings j 0 ≤ 24) (sym c.top-newest.ensures) (halved_at_most_24 k w j (omega arith));
-    }
+pub ends-ends-requires : goal.ends-ends-requires
+ends-ends-requires g c = omega (arith, few_axes c.args.self.now, ap length c.as_slice-axes.ensures.value)
 
 pub returns-in-Some : goal.returns-in-Some
 returns-in-Some g c =
     let k = c.args.self.now in
     let b = map g.K.Number.means c.args.patch.now in
-    let u : all_satisfy (turned (ticket_of k)).relation b ≡ false = sym (ap (λ r. all_satisfy r b) c.turned-relation.ensures) ∙ sym c.all_satisfy.ensures.answer ∙ c.if-all_satisfy.false in
-    let l = lowest_lent k c.as_slice-axes.result.now c.as_slice-axes.ensures.value c.requires.waits c.top-newest.result c.top-newest.ensures c.turned-relation.result c.box_ends-ends.result b c.broken_corner.result c.turned-relation.ensures c.box_ends-ends.ensures c.broken_corner.ensures.answer in
-    record { answer = violation_is_found (ticket_of k) (g.C.Chooser.meaning c.args.chooser.now) k.depth (newest_with k b) (few_axes k) u c.broken_corner.result l c.in-Some.corner c.in-Some.is; same = refl }
+    let u = turned_satisfies c.turned-relation.result (turned (ticket_of k)).relation b c.all_satisfy.result false c.turned-relation.ensures c.all_satisfy.ensures.answer c.if-all_satisfy.false in
+    let l = lowest_lent k c.as_slice-axes.result.now c.as_slice-axes.ensures.value c.args.newest c.turned-relation.result c.ends-ends.result b c.broken_corner.result c.turned-relation.ensures c.ends-ends.ensures c.broken_corner.ensures.answer in
+    record { answer = violation_is_found (ticket_of k) (g.C.Chooser.meaning c.args.chooser.now) k.depth (piece_of (ticket_of k) c.args.newest b) (few_axes k) u c.broken_corner.result l c.in-Some.corner c.in-Some.is; same = refl }
 
 pub returns-then-level-self : goal.returns-then-level-self
 returns-then-level-self g c =
     let k = c.args.self.now in
     let b = map g.K.Number.means c.args.patch.now in
-    let u : all_satisfy (turned (ticket_of k)).relation b ≡ false = sym (ap (λ r. all_satisfy r b) c.turned-relation.ensures) ∙ sym c.all_satisfy.ensures.answer ∙ c.if-all_satisfy.false in
-    let l = lowest_lent k c.as_slice-axes.result.now c.as_slice-axes.ensures.value c.requires.waits c.top-newest.result c.top-newest.ensures c.turned-relation.result c.box_ends-ends.result b c.broken_corner.result c.turned-relation.ensures c.box_ends-ends.ensures c.broken_corner.ensures.answer in
-    let v : level (box_of (axes k) (newest_of k.waiting)) ≡ k.depth = sym (level_lent k c.as_slice-axes.result.now c.as_slice-axes.ensures.value c.requires.waits c.top-newest.result c.top-newest.ensures) ∙ sym c.level-level.ensures ∙ c.if-level-self.true in
-    record { answer = depth_is_found (ticket_of k) (g.C.Chooser.meaning c.args.chooser.now) k.depth (newest_with k b) (few_axes k) u c.broken_corner.result l c.in-None.is (eq-eqb _ _ v); same = refl }
+    let u = turned_satisfies c.turned-relation.result (turned (ticket_of k)).relation b c.all_satisfy.result false c.turned-relation.ensures c.all_satisfy.ensures.answer c.if-all_satisfy.false in
+    let l = lowest_lent k c.as_slice-axes.result.now c.as_slice-axes.ensures.value c.args.newest c.turned-relation.result c.ends-ends.result b c.broken_corner.result c.turned-relation.ensures c.ends-ends.ensures c.broken_corner.ensures.answer in
+    let v : level (box_of (axes k) c.args.newest) ≡ k.depth = sym (ap sum_of (halvings_lent k c.as_slice-axes.result.now c.as_slice-axes.ensures.value c.args.newest c.halvings-halvings.result c.halvings-halvings.ensures)) ∙ sym c.level-level.ensures ∙ c.if-level-self.true in
+    record { answer = depth_is_found (ticket_of k) (g.C.Chooser.meaning c.args.chooser.now) k.depth (piece_of (ticket_of k) c.args.newest b) (few_axes k) u c.broken_corner.result l c.in_default.is (eq-eqb _ _ v); same = refl }
 
 pub returns : goal.returns
 returns g c =
@@ -59,15 +46,15 @@ returns g c =
     let b = map g.K.Number.means c.args.patch.now in
     let lent = c.as_slice-axes.result.now in
     let all = c.as_slice-axes.ensures.value in
-    let u : all_satisfy (turned (ticket_of k)).relation b ≡ false = sym (ap (λ r. all_satisfy r b) c.turned-relation.ensures) ∙ sym c.all_satisfy.ensures.answer ∙ c.if-all_satisfy.false in
-    let l = lowest_lent k lent all c.requires.waits c.top-newest.result c.top-newest.ensures c.turned-relation.result c.box_ends-ends.result b c.broken_corner.result c.turned-relation.ensures c.box_ends-ends.ensures c.broken_corner.ensures.answer in
-    let v : c.level-level.result ≡ level (box_of (axes k) (newest_of k.waiting)) = c.level-level.ensures ∙ level_lent k lent all c.requires.waits c.top-newest.result c.top-newest.ensures in
-    let deeper : eqb (level (box_of (axes k) (newest_of k.waiting))) k.depth ≡ false = ne_eqb _ _ (λ e. c.if-level-self.false (v ∙ e)) in
+    let u = turned_satisfies c.turned-relation.result (turned (ticket_of k)).relation b c.all_satisfy.result false c.turned-relation.ensures c.all_satisfy.ensures.answer c.if-all_satisfy.false in
+    let l = lowest_lent k lent all c.args.newest c.turned-relation.result c.ends-ends.result b c.broken_corner.result c.turned-relation.ensures c.ends-ends.ensures c.broken_corner.ensures.answer in
+    let v : c.level-level.result ≡ level (box_of (axes k) c.args.newest) = c.level-level.ensures ∙ ap sum_of (halvings_lent k lent all c.args.newest c.halvings-halvings.result c.halvings-halvings.ensures) in
+    let deeper : eqb (level (box_of (axes k) c.args.newest)) k.depth ≡ false = ne_eqb _ _ (λ e. c.if-level-self.false (v ∙ e)) in
     let a =
     c.ask-axis.ensures.answer
-    ∙ ap₂ (λ ds hs. μ (told ds hs c.level-level.result b)) (degrees_lent k lent all) (halvings_lent k lent all c.requires.waits c.top-newest.result c.top-newest.ensures)
-    ∙ ap (λ n. μ (told (degrees_of (ticket_of k).axes) (halvings_of (box_of (axes k) (newest_of k.waiting))) n b)) v in
+    ∙ ap₂ (λ ds hs. μ (told ds hs c.level-level.result b)) (degrees_lent k lent all) (halvings_lent k lent all c.args.newest c.halvings-halvings.result c.halvings-halvings.ensures)
+    ∙ ap (λ n. μ (told (degrees_of (ticket_of k).axes) (halvings_of (box_of (axes k) c.args.newest)) n b)) v in
     record {
-      answer = choice_is_found (ticket_of k) μ k.depth (newest_with k b) (few_axes k) u c.broken_corner.result l c.in-None.is c.ask-axis.result deeper a;
+      answer = choice_is_found (ticket_of k) μ k.depth (piece_of (ticket_of k) c.args.newest b) (few_axes k) u c.broken_corner.result l c.in_default.is c.ask-axis.result deeper a;
       same = c.ask-axis.ensures.same;
     }
