@@ -10,7 +10,7 @@ use Rattle.algebra.specs.Form.{other}
 use Rattle.algebra.specs.Layout.{numbers, stride, flat_half_at, flat_half}
 use Rattle.algebra.specs.declared.half.Half.{Half}
 use Rattle.patch.specs.Sweeps.{pair_at, half_at, half_of}
-use Rattle.patch.specs.Halving.{part, Halved, both_halves}
+use Rattle.patch.specs.Halving.{part, Halved, Outside, both_halves}
 use Rattle.patch.specs.Shapes.{shape_of}
 
 -- ---- the part of the workspace that the code looks at, and the slots that it writes
@@ -29,6 +29,12 @@ put_means f a k xs ys =
 
 pub slots_mean : {K : Type 0} (f : K → Pair) (start size k : ℕ) (xs : List K) → size ≤ k → take size (map f (take k (drop start xs))) ≡ part start size (map f xs)
 slots_mean f start size k xs l = take-map f size (take k (drop start xs)) ∙ ap (map f) (take-take size k (drop start xs) l) ∙ part_is f start size xs
+
+pub outside_is : {A : Type 0} (start k to : ℕ) (xs ys : List A) → start + k ≡ to → to ≤ length xs → length ys ≡ k → Outside start to xs (put_mid start k xs ys)
+outside_is start k to xs ys e fits len = record {
+  before = take-put_mid_below start k xs ys start (omega arith) (omega arith);
+  after = drop-put_mid start k xs ys to (omega arith) (omega arith) len;
+}
 
 -- ---- the slots hold the halves
 half_of_is : (h : Half) (ns : List ℕ) (j : ℕ) (b : List Pair) → length b ≡ numbers ns → half_of h (get_or ns j 0) (stride ns j) b ≡ flat_half pairs h ns j b

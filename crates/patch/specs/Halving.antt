@@ -35,6 +35,11 @@ pub record Halved (first : Half) (ns : List ℕ) (j start : ℕ) (old new : List
   pub before : take start new ≡ take start old
   pub after : drop (start + (numbers ns + numbers ns)) new ≡ drop (start + (numbers ns + numbers ns)) old
 
+-- all items but those from one place to another are the very same
+pub record Outside {A : Type 0} (from to : ℕ) (old new : List A) : Type 0 where
+  pub before : take from new ≡ take from old
+  pub after : drop to new ≡ drop to old
+
 -- the halves of a patch in two slots, the one that is looked at first behind the other
 abbrev pub both_halves : Half → Shape → List Pair → List Pair
 both_halves first shape b = half_of (other first) shape.degree shape.stride b ++ half_of first shape.degree shape.stride b

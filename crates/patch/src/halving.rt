@@ -1,7 +1,8 @@
 // Halving a patch inside a workspace.
 ghost use Rattle.std.specs.Prelude.{◌≡◌, ℕ, ◌+◌, ◌*◌, ◌<◌, ◌≤◌, true, take, map, length, is_ok, OnOk, OnErr, nat_le};
+ghost use Rattle.algebra.specs.Layout.{numbers};
 ghost use Rattle.patch.specs.Judging.{all_grow};
-ghost use Rattle.patch.specs.Halving.{may_halve, halving, Halved, both_halves};
+ghost use Rattle.patch.specs.Halving.{may_halve, halving, Halved, Outside, both_halves};
 ghost use Rattle.patch.specs.Meaning.{HalfRepresents, HalvesCover};
 
 use crate::judging::all_grow;
@@ -33,8 +34,8 @@ fn split<K: Number>(slots: &mut [K], shape: Shape, first: Half)
     halve_patch(behind, shape, first);
 }
 
-// Halves the patch at `start` along an axis: the half named `first` goes behind it and the other over it. It is refused, and leaves
-// the workspace as it is, if there is no such axis or the patch is larger than a machine word tells, if there is no room for both halves,
+// Halves the patch at `start` along an axis: the half named `first` goes behind it and the other over it, and all numbers outside the two
+// stay the very same. It is refused, and leaves the workspace as it is, if there is no such axis or the patch is larger than a machine word tells, if there is no room for both halves,
 // or if a number may not grow by the degree: the first of these is the answer. If the patch represents a polynomial on a box, so do the
 // halves on those of the box, and these lose no point of it.
 #[tactic(auto, using(crate::proofs::Box::halves_cover))]
@@ -48,6 +49,7 @@ pub fn halve<K: Number>(
     ensures answer { result ≡ halving K.limit degrees.now axis start (map K.means work.old) }
     ensures granted { is_ok result ≡ may_halve K.limit degrees.now axis start (map K.means work.old) }
     ensures halved { OnOk result (Halved first degrees.now axis start (map K.means work.old) (map K.means work.new)) }
+    ensures outside { OnOk result (Outside start (start + (numbers degrees.now + numbers degrees.now)) work.old work.new) }
     ensures refused { OnErr result (work.new ≡ work.old) }
     ensures represents { HalfRepresents }
     ensures covers { HalvesCover }

@@ -1,4 +1,4 @@
-use Rattle.std.proofs.Common.{◌≡◌, ◌+◌, ◌-◌, ◌*◌, ◌^◌, ◌<◌, true, false, map, length, take, sym, ap, ◌∙◌, subst, ap₂, arith, rules, leb-true, is_ok}
+use Rattle.std.proofs.Common.{◌≡◌, ◌+◌, ◌-◌, ◌*◌, ◌^◌, ◌<◌, true, false, map, length, take, drop, sym, ap, ◌∙◌, subst, ap₂, arith, rules, leb-true, is_ok}
 use borrow.Rule.Slice.PartMut.{put_mid}
 use Rattle.std.proofs.lemmas.List.{length-map, length-take, length-drop}
 use Rattle.algebra.specs.Layout.{numbers}
@@ -8,7 +8,7 @@ use Rattle.patch.specs.Halving.{part, Halved, both_halves}
 use Rattle.patch.proofs.Granting.{granted_is, by_growth, room_is, growth_is}
 use Rattle.patch.proofs.Counting.{of_shape, size_is}
 use Rattle.patch.proofs.Meaning.{half_represents}
-use Rattle.patch.proofs.Slots.{part_means, put_means, slots_mean, halved_is}
+use Rattle.patch.proofs.Slots.{part_means, put_means, slots_mean, outside_is, halved_is}
 use Rattle.patch.proofs.halving.halve.Goals as goal
 
 pub returns-in_err-shape-clause-represents : goal.returns-in_err-shape-clause-represents
@@ -87,3 +87,12 @@ returns-clause-halved g c =
     let halves = c.split.ensures ∙ ap₂ (both_halves c.args.first) s.2 (slots_mean f start shape.size (start + 2 * shape.size - start) work (omega arith) ∙ ap (λ n. part start n old) size) in
     subst (Halved c.args.first ns j start old) (sym (put_means f start (start + 2 * shape.size - start) work c.split.new.slots ∙ ap (λ k. put_mid start k old slots) k))
     (halved_is c.args.first ns j start old slots (omega (arith, length-map work f)) halves)
+
+pub returns-clause-outside : goal.returns-clause-outside
+returns-clause-outside g c =
+    let ns = c.args.degrees.now in
+    let shape = c.in_ok-shape.shape in
+    let s = of_shape ns c.args.axis shape (search rules) in
+    let size = ap (λ s. s.size) s.2 in
+    let fits = leb-true (c.args.start + (shape.size + shape.size)) (length c.args.work.now) (sym c.has_room.ensures ∙ c.if-not-has_room.false) in
+    outside_is c.args.start (c.args.start + 2 * shape.size - c.args.start) (c.args.start + (numbers ns + numbers ns)) c.args.work.now c.split.new.slots (omega arith) (omega arith) (omega (arith, length-take (c.args.start + 2 * shape.size - c.args.start) (drop c.args.start c.args.work.now), length-drop c.args.start c.args.work.now))
