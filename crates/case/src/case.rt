@@ -16,6 +16,7 @@ use ticket::SizedTicket;
 #[derive(Drop)]
 pub struct Case<K: Number> {
     pub(crate) ticket: SizedTicket,
+    // In fixed memory, since no call of a case allocates.
     pub(crate) degrees: [u8; 4],
     // How many numbers a patch has.
     pub(crate) size: usize,

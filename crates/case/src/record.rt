@@ -12,7 +12,7 @@ use patch::Ends;
 use std::marker::Model;
 use ticket::Axis;
 
-// Of each axis a part. The axes that a ticket has come first.
+// Of each axis a part. The axes that a ticket has come first; there is room for four, since no call of a case allocates.
 #[derive(Clone, Copy)]
 pub(crate) struct Record {
     parts: [Part; 4],
@@ -68,6 +68,7 @@ impl Record {
             upper_closed: true,
         };
         let mut ends = [closed; 4];
+        // By number: of what iter_mut lends through zip, a proof knows only the length afterwards.
         for (j, axis) in axes.iter().enumerate() {
             ends[j] = self.parts[j].ends(axis);
         }
