@@ -16,6 +16,7 @@ use number::Number;
 use patch::halve;
 use search::CallRefusal;
 
+// Each call says that the ticket and the chooser's meaning stay: an invariant speaks of one value, and not of before and after.
 impl<K: Number> Case<K> {
     // Examines the newest box, if one waits. A box whose numbers may not grow is set aside.
     fn examine<C: Chooser>(&mut self, work: &mut [K], chooser: &mut C)

@@ -25,7 +25,7 @@ impl Display for Power {
     }
 }
 
-// All powers of a product; none leads it where a number stands before them.
+// All powers of a product; none leads it where a number stands before them. The flag is no absent value: it picks the text of the first.
 #[derive(Clone, Copy)]
 struct Powers {
     leads: bool,

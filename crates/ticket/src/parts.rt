@@ -21,7 +21,8 @@ fn is_end(end: i32) -> bool
 }
 
 impl RecordNumber {
-    // Each byte of `rest`, of which the first is byte `byte` of its record, is zero.
+    // Each byte of `rest`, of which the first is byte `byte` of its record, is zero. That `rest` is short is asked here and of two callers,
+    // since a record is a slice: of a lent array no pattern's rest is proved yet.
     fn zeros(self, rest: &[u8], byte: usize) -> Result<(), Fault>
         requires { (byte < 16) × (length rest.now ≤ 16) }
         ensures { result ≡ zeros self.0 byte rest.now }

@@ -25,7 +25,8 @@ pub struct Term {
 }
 
 impl Term {
-    // Whether a kind of number that drifts or not carries this term.
+    // Whether a kind of number that drifts or not carries this term. Here and in sizing the kind is told by a flag, as `Number::drifts` is
+    // one: an enum of two would only be turned back into it.
     pub fn is_carried(&self, drifts: bool) -> bool
         ensures { result ≡ carries drifts self.now.drift }
     {
