@@ -32,6 +32,6 @@ pub struct Case<K: Number> {
     ghost sized: { size ≡ patch_count ticket.ticket.axes.items },
     ghost bounded: { depth ≤ 24 },
     // The kind of number carries the ticket's drifts: no other could hold the first patch.
-    ghost carried: { all_carried K.drifts ticket.ticket.terms.items ≡ true },
+    pub ghost carried: { all_carried K.drifts ticket.ticket.terms.items ≡ true },
     ghost sound: { ∥ Sound (length ticket.ticket.axes.items) depth waiting examined aside_depth aside_range corner found ∥₁ },
 }
