@@ -46,7 +46,7 @@ fn add_row<K: Number>(row: &mut [K], other: &[K])
     }
 }
 
-// Adds each number of a row to itself.
+// Adds each number of a row to itself. No call of `add_row`: one row cannot be lent both to be read and to be written.
 fn double_row<K: Number>(row: &mut [K])
     requires { (i : ℕ) → i < length row.old → Within K.limit (sum (pair_at (map K.means row.old) i) (pair_at (map K.means row.old) i)) }
     ensures { (i : ℕ) → i < length row.old → pair_at (map K.means row.new) i ≡ sum (pair_at (map K.means row.old) i) (pair_at (map K.means row.old) i) }
