@@ -8,7 +8,6 @@ use Rattle.algebra.specs.Layout.{numbers}
 use Rattle.algebra.specs.declared.half.Half.{Half}
 use Rattle.number.specs.declared.number.Number.{Ghosts}
 use Rattle.ticket.specs.Sizes.{rest, degrees_of}
-use Rattle.ticket.specs.declared.records.Axis.{Axis}
 use Rattle.patch.specs.Corners.{corner_of}
 use Rattle.patch.specs.Halving.{part, Halved, may_halve}
 use Rattle.patch.specs.Judging.{all_grow}
@@ -25,7 +24,6 @@ use Rattle.case.specs.declared.judgement.Judgement.{Judgement}
 use Rattle.case.specs.declared.judgement.Judgement.TheVariants.{Clear, Broken, Deep, Undecided}
 use Rattle.case.proofs.Pieces.{part_map, SideBySide, stand_side_by_side, halves_stand_first}
 use Rattle.case.proofs.Standing.{axes, one_and_older, shallow, fewer_older_than_halvings}
-use Rattle.case.proofs.Lent.{degrees_lent}
 use Rattle.case.proofs.Found.{halves, halves_or_aside, clear_is_settled, broken_is_violated, deep_is_set_aside, Chosen, undecided_is_chosen}
 
 -- what halving in the workspace asks comes to the growth of the patch
@@ -101,28 +99,28 @@ module _ {K : Type 0} {N : Ghosts K} (k : Case K N) (r : Record) (on_top : slice
         pub axis_inside : axis < axes k
         axis_inside = subst (λ i. i < axes k) (sym chosen.axis) (axis_is_there (ticket_of k) μ k.ticket.ticket.formed picks newest)
 
-        module _ (known : List Axis) (all : known ≡ (ticket_of k).axes) (room : (k.depth + 3) * k.size ≤ length work) where
+        module _ (degrees : List ℕ) (lent : degrees ≡ k.degrees.items) (room : (k.depth + 3) * k.size ≤ length work) where
           abbrev ns : List ℕ
           ns = degrees_of (ticket_of k).axes
 
-          same_growth : may_halve limit (take (length known) k.degrees) axis ((n - 1) * k.size) (map f work) ≡ may_be_halved (ticket_of k) μ limit newest
+          same_growth : may_halve limit degrees axis ((n - 1) * k.size) (map f work) ≡ may_be_halved (ticket_of k) μ limit newest
           unfolding may_be_halved
           same_growth =
-              ap (λ ns. may_halve limit ns axis ((n - 1) * k.size) (map f work)) (degrees_lent k known all)
+              ap (λ ns. may_halve limit ns axis ((n - 1) * k.size) (map f work)) (lent ∙ k.shaped)
               ∙ only_growth_is_asked limit ns axis ((n - 1) * k.size) k.size (map f work) (omega (arith, axis_inside, length-map (ticket_of k).axes (λ a. a.degree))) k.sized
               (omega (arith, newest_ends_within (length work) room, length-map work f))
               ∙ ap₂ (λ i m. all_grow limit (get_or ns i 0) (part (m * k.size) k.size (map f work))) chosen.axis slot_of_newest
 
-          by_growth : (grows : Bool) → may_halve limit (take (length known) k.degrees) axis ((n - 1) * k.size) (map f work) ≡ grows → examine (ticket_of k) limit μ k.depth newest ≡ halves_or_aside grows (ticket_of k) first axis newest
+          by_growth : (grows : Bool) → may_halve limit degrees axis ((n - 1) * k.size) (map f work) ≡ grows → examine (ticket_of k) limit μ k.depth newest ≡ halves_or_aside grows (ticket_of k) first axis newest
           by_growth grows g = chosen.outcome ∙ ap (λ b. halves_or_aside b (ticket_of k) first axis newest) (sym same_growth ∙ g)
 
-          pub too_large_steps : (rs : List Record) → may_halve limit (take (length known) k.degrees) axis ((n - 1) * k.size) (map f work) ≡ false → rs ≡ rest k.waiting →
+          pub too_large_steps : (rs : List Record) → may_halve limit degrees axis ((n - 1) * k.size) (map f work) ≡ false → rs ≡ rest k.waiting →
               counted s (pieces (axes k) k.size rs (map f work)) k.aside_depth (k.aside_range + 1) s.corner ≡ step (ticket_of k) limit μ s
           too_large_steps rs g e =
               ap (λ xs. counted s (pieces (axes k) k.size xs (map f work)) k.aside_depth (k.aside_range + 1) s.corner) e ∙ stepped too_large (by_growth false g)
 
-          pub split_steps : (rs : List Record) (new : List Pair) → may_halve limit (take (length known) k.degrees) axis ((n - 1) * k.size) (map f work) ≡ true →
-              Halved first (take (length known) k.degrees) axis ((n - 1) * k.size) (map f work) new → rs ≡ newest_halved first axis k.waiting →
+          pub split_steps : (rs : List Record) (new : List Pair) → may_halve limit degrees axis ((n - 1) * k.size) (map f work) ≡ true →
+              Halved first degrees axis ((n - 1) * k.size) (map f work) new → rs ≡ newest_halved first axis k.waiting →
               counted s (pieces (axes k) k.size rs new) k.aside_depth k.aside_range s.corner ≡ step (ticket_of k) limit μ s
           split_steps rs new g h e =
               ap (λ xs. counted s (pieces (axes k) k.size xs new) k.aside_depth k.aside_range s.corner) (e ∙ ap (newest_halved first axis) (one_and_older k r on_top))
@@ -133,4 +131,4 @@ module _ {K : Type 0} {N : Ghosts K} (k : Case K N) (r : Record) (on_top : slice
               side : SideBySide ns axis first (length (rest k.waiting) * k.size) k.size (map f work) new
               side =
                   stand_side_by_side first ns axis (length (rest k.waiting) * k.size) k.size (map f work) new k.sized
-                  (subst (λ m. Halved first ns axis (m * k.size) (map f work) new) slot_of_newest (subst (λ ns. Halved first ns axis ((n - 1) * k.size) (map f work) new) (degrees_lent k known all) h))
+                  (subst (λ m. Halved first ns axis (m * k.size) (map f work) new) slot_of_newest (subst (λ ns. Halved first ns axis ((n - 1) * k.size) (map f work) new) (lent ∙ k.shaped) h))

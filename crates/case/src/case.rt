@@ -1,11 +1,12 @@
 // A case: a ticket, and where its search stands.
-ghost use Rattle.std.specs.Prelude.{◌≡◌, ◌≤◌, true, length, take};
+ghost use Rattle.std.specs.Prelude.{◌≡◌, ◌≤◌, true, length};
 ghost use Rattle.ticket.specs.Sizes.{degrees_of, patch_count};
 ghost use Rattle.patch.specs.FirstPatch.{all_carried};
 ghost use Rattle.case.specs.Sound.{Sound};
 
 use crate::record::Record;
 use crate::waiting::Waiting;
+use arrayvec::ArrayVec;
 use number::Number;
 use std::marker::PhantomData;
 use ticket::SizedTicket;
@@ -16,19 +17,19 @@ use ticket::SizedTicket;
 #[derive(Drop)]
 pub struct Case<K: Number> {
     pub(crate) ticket: SizedTicket,
-    // In fixed memory, since no call of a case allocates.
-    pub(crate) degrees: [u8; 4],
+    pub(crate) degrees: ArrayVec<u8, 4>,
     // How many numbers a patch has.
     pub(crate) size: usize,
     pub(crate) depth: u32,
     pub(crate) waiting: Waiting,
+    // Three counts of a verdict, whose word and fourth count are read off the waiting boxes and these.
     pub(crate) examined: u32,
     pub(crate) aside_depth: u32,
     pub(crate) aside_range: u32,
     pub(crate) corner: Option<u32>,
     pub(crate) found: Record,
     pub(crate) kind: PhantomData<K>,
-    ghost shaped: { take (length ticket.ticket.axes.items) degrees ≡ degrees_of ticket.ticket.axes.items },
+    ghost shaped: { degrees.items ≡ degrees_of ticket.ticket.axes.items },
     ghost sized: { size ≡ patch_count ticket.ticket.axes.items },
     ghost bounded: { depth ≤ 24 },
     // The kind of number carries the ticket's drifts: no other could hold the first patch.

@@ -62,7 +62,7 @@ impl<K: Number> Case<K> {
             return Judgement::Clear;
         }
         let axes = self.ticket.ticket.axes.as_slice();
-        let degrees = &self.degrees[..axes.len()];
+        let degrees = self.degrees.as_slice();
         let ends = newest.ends(axes);
         if let Some(corner) = broken_corner(relation, degrees, &ends[..axes.len()], patch) {
             return Judgement::Broken(corner);

@@ -28,7 +28,6 @@ impl<K: Number> Case<K> {
         let Some(newest) = self.waiting.top() else {
             return;
         };
-        let axes = self.ticket.ticket.axes.as_slice().len();
         let start = (self.waiting.len() - 1) * self.size;
         let judgement = self.judge(newest, &work[start..start + self.size], chooser);
         self.examined += 1;
@@ -44,7 +43,7 @@ impl<K: Number> Case<K> {
                 self.aside_depth += 1;
             }
             Judgement::Undecided(axis, first) => {
-                match halve(work, start, &self.degrees[..axes], axis, first) {
+                match halve(work, start, self.degrees.as_slice(), axis, first) {
                     Ok(()) => self.waiting.halve_top(axis, first),
                     Err(_) => {
                         self.waiting.pop();

@@ -131,7 +131,7 @@ returns-in-Ok-clause-steps g c =
     let on_top = sym c.top.ensures ∙ c.in-Some.is in
     let f = g.K.Number.means in
     let μ = g.C.Chooser.meaning c.args.chooser.now in
-    split_steps k c.in-Some.newest on_top c.len.result c.len.ensures.count g.K.Number.limit μ f c.args.work.now c.in-Undecided.axis c.in-Undecided.first c.in-Undecided.ensures.answer (g.met.C.Chooser.picks c.args.chooser.now) c.as_slice-axes.result.now c.as_slice-axes.ensures.value c.requires c.halve_top.new.self (map f c.halve.new.work) (sym c.in-Ok.ensures.granted) c.in-Ok.ensures.halved c.halve_top.ensures
+    split_steps k c.in-Some.newest on_top c.len.result c.len.ensures.count g.K.Number.limit μ f c.args.work.now c.in-Undecided.axis c.in-Undecided.first c.in-Undecided.ensures.answer (g.met.C.Chooser.picks c.args.chooser.now) c.as_slice.result.now c.as_slice.ensures.value c.requires c.halve_top.new.self (map f c.halve.new.work) (sym c.in-Ok.ensures.granted) c.in-Ok.ensures.halved c.halve_top.ensures
 
 pub returns-in-Err-clause-steps : goal.returns-in-Err-clause-steps
 returns-in-Err-clause-steps g c =
@@ -140,4 +140,4 @@ returns-in-Err-clause-steps g c =
     let f = g.K.Number.means in
     let μ = g.C.Chooser.meaning c.args.chooser.now in
     rw c.in-Err.ensures.refused
-    (too_large_steps k c.in-Some.newest on_top c.len.result c.len.ensures.count g.K.Number.limit μ f c.args.work.now c.in-Undecided.axis c.in-Undecided.first c.in-Undecided.ensures.answer (g.met.C.Chooser.picks c.args.chooser.now) c.as_slice-axes.result.now c.as_slice-axes.ensures.value c.requires c.pop-in-Err.new.self (sym c.in-Err.ensures.granted) c.pop-in-Err.ensures)
+    (too_large_steps k c.in-Some.newest on_top c.len.result c.len.ensures.count g.K.Number.limit μ f c.args.work.now c.in-Undecided.axis c.in-Undecided.first c.in-Undecided.ensures.answer (g.met.C.Chooser.picks c.args.chooser.now) c.as_slice.result.now c.as_slice.ensures.value c.requires c.pop-in-Err.new.self (sym c.in-Err.ensures.granted) c.pop-in-Err.ensures)
