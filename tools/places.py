@@ -25,6 +25,7 @@ PATTERNS = {
     "2 twins": [
         ("one name in two files", None),
         ("one shape in two functions", None),
+        ("three fields in two types", None),
     ],
     "3 loops": [
         ("counter by hand", r"\bwhile [^{]*\{"),
@@ -88,7 +89,7 @@ def functions(code):
 def shape(body):
     """A body with its names, numbers and operators blurred."""
     words = re.sub(r"\b(?!for|in|if|return|true|false|let|mut|match|while|else)\w+\b", "x", body)
-    return re.sub(r"[-+*/<>=!&|.]+", "o", re.sub(r"\s+", " ", words)).strip()
+    return re.sub(r"[-+*/<>=!&|.]+", "o", re.sub(r'"[^"]*"', 'x', re.sub(r"\s+", " ", words))).strip()
 
 
 def twins(top):
@@ -99,11 +100,16 @@ def twins(top):
             where = f"{p.relative_to(top)}:{code.count(chr(10), 0, at) + 1}: fn {name}"
             if body.strip() and name not in ("fmt", "main", "from", "new", "choose", "make", "plus", "add", "sign", "grows"):
                 names[name].append(where)
-            if len(body.split()) > 12:
+            if len(body.split()) > 4 and name not in ("fmt", "from"):
                 shapes[shape(body)].append(where)
     one = [" ~ ".join(v) for k, v in names.items() if len(v) > 1]
     two = [" ~ ".join(v) for k, v in shapes.items() if len(v) > 1 and k]
-    return one, two
+    fields = {}
+    for p in sources(top):
+        for m in re.finditer(r"struct (\w+)[^{;]*\{([^}]*)\}", code_of(p)):
+            fields[f"{p.relative_to(top)}: {m.group(1)}"] = set(re.findall(r"(\w+: [^,\n]+),", re.sub(r"pub(?:\(crate\))? |ghost [^\n]*", "", m.group(2))))
+    three = [f"{a} ~ {b}: {', '.join(sorted(fields[a] & fields[b]))}" for a, b in itertools.combinations(fields, 2) if len(fields[a] & fields[b]) > 2]
+    return one, two, three
 
 
 def travellers(top):
@@ -143,7 +149,7 @@ def found(top, pattern):
 def main():
     words = [w for w in sys.argv[1:] if w != "--list"]
     top = pathlib.Path(words[0] if words else ".")
-    special = dict(zip(["one name in two files", "one shape in two functions"], twins(top)))
+    special = dict(zip(["one name in two files", "one shape in two functions", "three fields in two types"], twins(top)))
     special.update(zip(["fact in three contracts", "three parameters in three functions"], travellers(top)))
     for point, patterns in PATTERNS.items():
         print(point)
