@@ -7,7 +7,7 @@ use search::Verdict;
 use std::fmt::{Display, Formatter, Result, Write};
 
 // What is answered to an order.
-#[derive(Drop)]
+#[derive(Clone, Copy, Debug, PartialEq, Eq)]
 pub enum Answer<'a> {
     // How many boxes a run examined.
     Ran(u32),
@@ -16,7 +16,7 @@ pub enum Answer<'a> {
     Told(Verdict),
     // The point, as `point -3/0 5/2`.
     Pointed(&'a [Coordinate]),
-    // The number of a refusal.
+    // The number of a refusal: refusals of several enums end here.
     Refused(u8),
 }
 

@@ -1,6 +1,6 @@
 // The page that shows a ticket to a reader, proved to the byte.
 //
-//     println!(rt, "{}", Page(&ticket))
+//     println!(rt; "{}", Page(&ticket))
 //
 //     axis 0: x0 in [0, 4095], degree 2
 //     p = 12000 + 250*x0 (drift -3) + x0^2

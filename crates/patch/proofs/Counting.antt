@@ -44,9 +44,6 @@ module _ (ns : List ℕ) (j : ℕ) (l : j < length ns) where
       omega (arith, size_is ns j l, le-mul_of_pos_right (stride ns j) n, mul_comm (stride ns j) (get_or ns j 0 + 1), le-mul_of_pos_right ((get_or ns j 0 + 1) * stride ns j) (numbers_positive (take j ns)), mul_comm (numbers (take j ns)) ((get_or ns j 0 + 1) * stride ns j))
 
 -- the parts of the degrees as the code cuts them
-pub front_is : (ns : List ℕ) (j : ℕ) → numbers (take (j - 0) ns) ≡ numbers (take j ns)
-front_is ns j = let e : j - 0 ≡ j = omega arith in ap (λ n. numbers (take n ns)) e
-
 pub back_is : (ns : List ℕ) (j : ℕ) → j < length ns → numbers (take (length ns - (j + 1)) (drop (j + 1) ns)) ≡ stride ns j
 back_is ns j l = ap numbers (take_rest ns (j + 1)) ∙ stride_is ns j l
 

@@ -65,7 +65,7 @@ impl<K: Number> Asked<'_, K> {
     fn place(&self, corner: u32) -> usize
         ensures { result ≡ place_of self.now.degrees.now (corner_index self.now.degrees.now (corner_of (length self.now.degrees.now) corner)) }
     {
-        // Not a fold: that the next place fits follows from the place so far.
+        // Not a fold: of one it is not proved that the next place fits, which follows from the place so far.
         let mut place: usize = 0;
         for (axis, degree) in self.degrees.iter().enumerate() {
             let n = usize::from(*degree);

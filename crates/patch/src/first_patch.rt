@@ -34,6 +34,7 @@ impl Place<'_> {
         requires { Monomial self.now.axes.now exponents.now }
         ensures { result ≡ coefficient_at self.now.axes.now self.now.at exponents.now }
     {
+        // Not a fold: that the product fits, and that places later on divide, follows from what is done so far.
         let mut product = 1;
         let mut later = self.size;
         let mut left = self.at;

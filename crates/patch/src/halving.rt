@@ -35,9 +35,9 @@ fn split<K: Number>(slots: &mut [K], shape: Shape, first: Half)
 }
 
 // Halves the patch at `start` along an axis: the half named `first` goes behind it and the other over it, and all numbers outside the two
-// stay the very same. It is refused, and leaves the workspace as it is, if there is no such axis or the patch is larger than a machine word tells, if there is no room for both halves,
-// or if a number may not grow by the degree: the first of these is the answer. If the patch represents a polynomial on a box, so do the
-// halves on those of the box, and these lose no point of it.
+// stay the very same. It is refused, and leaves the workspace as it is, if there is no such axis or the patch is larger than a machine
+// word tells, if there is no room for both halves, or if a number may not grow by the degree: the first of these is the answer. If the
+// patch represents a polynomial on a box, so do the halves on those of the box, and these lose no point of it.
 #[tactic(auto, using(crate::proofs::Box::halves_cover))]
 pub fn halve<K: Number>(
     work: &mut [K],

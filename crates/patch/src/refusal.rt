@@ -1,6 +1,6 @@
 // Why numbers are not written to a slice.
 
-#[derive(Clone, Copy, PartialEq, Eq)]
+#[derive(Clone, Copy, Debug, PartialEq, Eq)]
 pub enum PatchRefusal {
     // The kind of number does not carry a drift of the ticket.
     Drift,

@@ -5,7 +5,7 @@ ghost use Rattle.patch.specs.Shapes.{shaped};
 use crate::layout::count;
 
 // A patch is so many blocks, each of degree + 1 rows of `stride` numbers: `size` numbers in all.
-#[derive(Clone, Copy, PartialEq, Eq)]
+#[derive(Clone, Copy, Debug, PartialEq, Eq)]
 pub struct Shape {
     pub blocks: usize,
     pub degree: u8,

@@ -10,6 +10,7 @@ use ticket::{Failure, Fault, Layer, Reader, Ticket};
 
 #[derive(Clone, Copy, PartialEq, Eq)]
 pub struct Place {
+    // A number and no `Refusal`, since the table may expect any.
     pub number: u8,
     pub record: usize,
     pub byte: usize,

@@ -1,5 +1,6 @@
 -- A word and a verdict as text.
-use Rattle.std.specs.Prelude.{ℕ, List, ◌∷◌, ◌++◌, codes, decimal}
+use Rattle.std.specs.Prelude.{ℕ, List, codes, decimal}
+use Rattle.ticket.specs.Text.{spaced}
 use Rattle.search.specs.declared.verdict.Verdict.{Verdict}
 use Rattle.search.specs.declared.word.Word.{Word}
 use Rattle.search.specs.declared.word.Word.TheVariants.{Running, Fails, Holds, Open}
@@ -9,10 +10,6 @@ word_text Running = codes "running"
 word_text Fails = codes "fails"
 word_text Holds = codes "holds"
 word_text Open = codes "open"
-
--- two words with one space between
-abbrev pub spaced : List ℕ → List ℕ → List ℕ
-spaced word rest = word ++ 32 ∷ rest
 
 -- the word, and how many boxes were examined, wait, and were set aside for depth and for range
 abbrev pub verdict_text : Verdict → List ℕ
