@@ -34,12 +34,17 @@ fn take_record(bytes: &[u8], record: RecordNumber, draft: &Draft) -> Result<Reco
             b1,
             b2,
             b3,
-            rest @ ..,
+            z0,
+            z1,
+            z2,
+            z3,
+            ..
         ] => {
             record.check(draft.takes_axis(*number), Refusal::Turn, 0)?;
             let lower = [*a0, *a1, *a2, *a3];
             let upper = [*b0, *b1, *b2, *b3];
-            let axis = record.axis(*degree, *ends, lower, upper, rest)?;
+            let blank = [*z0, *z1, *z2, *z3];
+            let axis = record.axis(*degree, *ends, lower, upper, blank)?;
             Ok(Record::Axis(axis))
         }
         [
