@@ -87,7 +87,7 @@ fn take_record(bytes: &[u8], record: RecordNumber, draft: &Draft) -> Result<Reco
 fn is_length(len: usize) -> bool
     ensures { result ≡ is_length len }
 {
-    0 < len && len % 16 == 0 && len / 16 <= 133
+    len % 16 == 0 && (1..=133).contains(&(len / 16))
 }
 
 impl<'a> Reader<'a> {
