@@ -3,7 +3,7 @@
 
 use page::Page;
 use std::{fs, io};
-use ticket::{Failure, Reader};
+use ticket::Reader;
 
 fn main(rt: HostRuntime) -> io::Result<()> {
     // A file that cannot be read counts as empty, and no ticket is empty.
@@ -13,7 +13,6 @@ fn main(rt: HostRuntime) -> io::Result<()> {
             let page = Page(&ticket);
             println!(rt; "{page}")
         }
-        Err(Failure::Refused(fault)) => println!(rt; "{fault}"),
-        Err(Failure::OutOfMemory) => println!(rt; "out of memory"),
+        Err(failure) => println!(rt; "{failure}"),
     }
 }

@@ -7,7 +7,7 @@ mod shown;
 use page::Page;
 use shown::Shown;
 use std::{env, fs, io};
-use ticket::{Failure, Reader, Ticket};
+use ticket::{Reader, Ticket};
 
 // The page of a ticket, and what its sizes come to: the first patch, or why there is none.
 fn show_ticket(rt: &HostRuntime, ticket: Ticket) -> io::Result<Option<Shown>> {
@@ -31,11 +31,12 @@ fn show_file(rt: &HostRuntime, name: &str) -> io::Result<Option<Shown>> {
     // A file that cannot be read counts as empty, and no ticket is empty.
     let bytes = fs::read(rt, name).unwrap_or_else(|_| Vec::new(rt.alloc()));
     match Reader::new(&bytes).ticket(rt.alloc()) {
-        Ok(ticket) => return show_ticket(rt, ticket),
-        Err(Failure::Refused(fault)) => println!(rt; "{fault}")?,
-        Err(Failure::OutOfMemory) => println!(rt; "out of memory")?,
+        Ok(ticket) => show_ticket(rt, ticket),
+        Err(failure) => {
+            println!(rt; "{failure}")?;
+            Ok(None)
+        }
     }
-    Ok(None)
 }
 
 fn main(rt: HostRuntime) -> io::Result<()> {

@@ -1,6 +1,8 @@
--- What is printed of a refused ticket.
+-- What is printed where no ticket came of some bytes.
 use Rattle.std.specs.Prelude.{ℕ, List, ◌∷◌, ◌++◌, codes, decimal}
 use Rattle.ticket.specs.Faults.{refusal_number}
+use Rattle.ticket.specs.declared.failure.Failure.{Failure}
+use Rattle.ticket.specs.declared.failure.Failure.TheVariants.{Refused, OutOfMemory}
 use Rattle.ticket.specs.declared.fault.Fault.{Fault}
 use Rattle.ticket.specs.declared.fault.Layer.{Layer}
 use Rattle.ticket.specs.declared.fault.Layer.TheVariants.{Reader, Sizing, Workspace}
@@ -22,3 +24,8 @@ fault_line f =
     (spaced (decimal (refusal_number f.refusal))
     (spaced (layer_name f.layer)
     (spaced (decimal f.«record») (decimal f.byte))))
+
+-- the line of the fault, or that there was no memory
+abbrev pub failure_text : Failure → List ℕ
+failure_text (Refused f) = fault_line f
+failure_text OutOfMemory = codes "out of memory"

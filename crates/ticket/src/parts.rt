@@ -21,7 +21,7 @@ fn is_end(end: i32) -> bool
 }
 
 impl RecordNumber {
-    // Each byte of `rest`, of which the first is byte `byte` of its record, is zero. That `rest` is short is asked here and of two callers,
+    // Each byte of `rest`, of which the first is byte `byte` of its record, is zero. That `rest` is short is asked here and of `question`,
     // since a record is a slice: of a lent array no pattern's rest is proved yet.
     fn zeros(self, rest: &[u8], byte: usize) -> Result<(), Fault>
         requires { (byte < 16) × (length rest.now ≤ 16) }
@@ -38,13 +38,12 @@ impl RecordNumber {
         ends: u8,
         lower: [u8; 4],
         upper: [u8; 4],
-        rest: &[u8],
+        blank: [u8; 4],
     ) -> Result<Axis, Fault>
-        requires { length rest.now ≤ 16 }
-        ensures { result ≡ axis_of self.0 degree ends lower upper rest.now }
+        ensures { result ≡ axis_of self.0 degree ends lower upper blank }
     {
         self.check(ends & 0b1111_1100 == 0, Refusal::NotZero, 3)?;
-        self.zeros(rest, 12)?;
+        self.zeros(&blank, 12)?;
         self.check(is_degree(degree), Refusal::Degree, 2)?;
         let lower = i32::from_be_bytes(lower);
         let upper = i32::from_be_bytes(upper);

@@ -34,12 +34,17 @@ fn take_record(bytes: &[u8], record: RecordNumber, draft: &Draft) -> Result<Reco
             b1,
             b2,
             b3,
-            rest @ ..,
+            z0,
+            z1,
+            z2,
+            z3,
+            ..
         ] => {
             record.check(draft.takes_axis(*number), Refusal::Turn, 0)?;
             let lower = [*a0, *a1, *a2, *a3];
             let upper = [*b0, *b1, *b2, *b3];
-            let axis = record.axis(*degree, *ends, lower, upper, rest)?;
+            let blank = [*z0, *z1, *z2, *z3];
+            let axis = record.axis(*degree, *ends, lower, upper, blank)?;
             Ok(Record::Axis(axis))
         }
         [
@@ -82,7 +87,7 @@ fn take_record(bytes: &[u8], record: RecordNumber, draft: &Draft) -> Result<Reco
 fn is_length(len: usize) -> bool
     ensures { result ≡ is_length len }
 {
-    0 < len && len % 16 == 0 && len / 16 <= 133
+    len % 16 == 0 && (1..=133).contains(&(len / 16))
 }
 
 impl<'a> Reader<'a> {

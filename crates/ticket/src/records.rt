@@ -25,8 +25,8 @@ pub struct Term {
 }
 
 impl Term {
-    // Whether a kind of number that drifts or not carries this term. Here and in sizing the kind is told by a flag, as `Number::drifts` is
-    // one: an enum of two would only be turned back into it.
+    // Whether a kind of number that drifts or not carries this term.
+    // The kind is told by a flag, as `Number::drifts` is one: a type of two cases would say no more.
     pub fn is_carried(&self, drifts: bool) -> bool
         ensures { result ≡ carries drifts self.now.drift }
     {

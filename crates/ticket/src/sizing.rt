@@ -121,6 +121,7 @@ impl Ticket {
     }
 
     // The kind of number carries the drift of each term; the first term is the record behind the axes.
+    // The kind is told by a flag: generic code learns it by making the number (0, 1), and a type of two cases would say no more.
     fn check_drifts(&self, drifts: bool) -> Result<(), Fault>
         ensures { result ≡ drifts_carried drifts (length self.now.axes.items) self.now.terms.items }
     {
@@ -133,6 +134,7 @@ impl Ticket {
     }
 
     // The ticket as one whose size is known, for a kind of number that carries drift or not; or its first fault as a whole.
+    // The kind is told by a flag: generic code learns it by making the number (0, 1), and a type of two cases would say no more.
     pub fn sized(self, drifts: bool) -> Result<SizedTicket, Fault>
         ensures { sized_content result ≡ sizing drifts (content self) }
     {

@@ -33,7 +33,7 @@ returns-in_err-axis-in-1 c =
           (through _ (told _ (none_told _ _ c.is_none.ensures) c.in_ok-check.ensures)
           (is_axis _ _ _ _ kind
           (through _ (told _ c.takes_axis.ensures.value c.in_ok-check-in-1.ensures)
-          (stops _ (axis_rest c.args.bytes.now 12 _ _ _ _ _ c.in_err-axis-in-1.ensures)))));
+          (stops _ (axis_rest c.args.bytes.now _ _ _ _ _ c.requires c.in_err-axis-in-1.ensures)))));
       room = IfOk-from_err _ _ c.from_residual-in_err-axis-in-1.ensures.0;
     }
 
@@ -45,7 +45,7 @@ returns-in_ok-axis-in-1 c =
       value = through _ (told _ (none_told _ _ c.is_none.ensures) c.in_ok-check.ensures)
           (is_axis _ _ _ _ kind
           (through _ (told _ c.takes_axis.ensures.value c.in_ok-check-in-1.ensures)
-          (through _ (axis_rest c.args.bytes.now 12 _ _ _ _ _ c.in_ok-axis-in-1.ensures) refl)));
+          (through _ (axis_rest c.args.bytes.now _ _ _ _ _ c.requires c.in_ok-axis-in-1.ensures) refl)));
       room = c.takes_axis.ensures.room (passed _ _ _ c.in_ok-check-in-1.ensures);
     }
 
