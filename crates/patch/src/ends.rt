@@ -6,7 +6,7 @@ ghost use Rattle.patch.specs.Corners.{ends_of};
 use algebra::Half;
 
 // Which of the two ends belong to the box.
-#[derive(Clone, Copy)]
+#[derive(Clone, Copy, Debug, Default, PartialEq, Eq)]
 pub struct Ends {
     pub lower_closed: bool,
     pub upper_closed: bool,
