@@ -1,45 +1,26 @@
 -- The ends of a box, axis by axis.
-use Rattle.std.proofs.Common.{◌≡◌, ℕ, zero, suc, ◌+◌, ◌<◌, ◌≤◌, true, List, [], ◌∷◌, ◌++◌, map, length, get_or, take, set, sym, refl, ap, ◌∙◌, ap₂, arith}
-use Rattle.std.proofs.lemmas.List.{take_all, take_more, take_more_set, map_push}
-use Rattle.ticket.specs.Sizes.{rest}
+use Rattle.std.proofs.Common.{◌≡◌, ◌≤◌, ◌⊎◌, inl, inr, List, [], ◌∷◌, ◌++◌, map, length, take, sym, refl, ap, ◌∙◌, ap₂, arith}
+use Rattle.std.proofs.lemmas.List.{append_assoc, append-nil, map_push, nil_from_length}
 use Rattle.ticket.specs.declared.records.Axis.{Axis}
-use Rattle.patch.specs.Box.{Box, entire, ends_of, box_ends}
+use Rattle.patch.specs.Box.{Box, Part, ends_of, box_ends}
 use Rattle.patch.specs.Corners.{ends_of as closed_ends}
-use Rattle.patch.specs.Judging.{Ends}
 use Rattle.patch.specs.declared.ends.Ends.{Ends as Held}
 
-part_of_rest : (box : Box) (j : ℕ) → get_or (rest box) j entire ≡ get_or box (suc j) entire
-part_of_rest [] j = refl
-part_of_rest (x ∷ xs) j = refl
+-- one axis more: its ends stand behind those before it, and those of the later axes are yet to come
+pub one_more_end : (axes later : List Axis) (box after : Box) (a : Axis) (x : Part) (es : List Held) (e : Held) → axes ≡ a ∷ later → box ≡ x ∷ after → closed_ends e ≡ ends_of a x →
+    map closed_ends (es ++ e ∷ []) ++ box_ends later after ≡ map closed_ends es ++ box_ends axes box
+one_more_end axes later box after a x es e first part here =
+    ap (λ xs. xs ++ box_ends later after) (map_push closed_ends es e) ∙ append_assoc (map closed_ends es) (closed_ends e ∷ []) (box_ends later after)
+    ∙ ap (λ y. map closed_ends es ++ y ∷ box_ends later after) here
+    ∙ ap (λ xs. map closed_ends es ++ xs) (sym (ap₂ box_ends first part))
 
-as_many_ends : (axes : List Axis) (box : Box) → length (box_ends axes box) ≡ length axes
-as_many_ends [] box = refl
-as_many_ends (a ∷ axes) box = ap suc (as_many_ends axes (rest box))
+-- at the end of the axes or of the parts no axis is left, since there are as many parts at least
+pub none_later : {A B : Type 0} (later : List A) (after : List B) → (later ≡ []) ⊎ (after ≡ []) → length later ≤ length after → later ≡ []
+none_later later after (inl e) few = e
+none_later later after (inr e) few = nil_from_length later (omega (arith, ap length e))
 
-ends_at : (axes : List Axis) (box : Box) (j : ℕ) (a : Axis) (e : Ends) → j < length axes → get_or (box_ends axes box) j e ≡ ends_of (get_or axes j a) (get_or box j entire)
-ends_at [] box j a e l = absurd (omega arith)
-ends_at (b ∷ axes) box zero a e l = refl
-ends_at (b ∷ axes) box (suc j) a e l = ends_at axes (rest box) j a e (omega arith) ∙ ap (ends_of (get_or axes j a)) (part_of_rest box j)
-
-no_ends : Ends
-no_ends = closed_ends (record { lower_closed = true; upper_closed = true })
-
-module _ (axes : List Axis) (box : Box) (j : ℕ) where
-  -- one axis more
-  pub ends_so_far : (a : Axis) (all : List Held) (new : Held) → j < length axes → j < length all →
-      map closed_ends (take j all) ≡ take j (box_ends axes box) →
-      closed_ends new ≡ ends_of (get_or axes j a) (get_or box j entire) →
-      map closed_ends (take (j + 1) (set all j new)) ≡ take (j + 1) (box_ends axes box)
-  ends_so_far a all new l k before here =
-      ap (map closed_ends) (take_more_set all j new k) ∙ map_push closed_ends (take j all) new
-      ∙ ap₂ (λ es e. es ++ e ∷ []) before (here ∙ sym (ends_at axes box j a no_ends l))
-      ∙ sym (take_more (box_ends axes box) j no_ends (omega (arith, as_many_ends axes box)))
-
-  pub all_ends : (all : List Held) → length axes ≤ j → j ≤ length axes →
-      map closed_ends (take j all) ≡ take j (box_ends axes box) → map closed_ends (take (length axes) all) ≡ box_ends axes box
-  all_ends all l k e =
-      let s : length axes ≡ j = omega arith in
-      ap (λ n. map closed_ends (take n all)) s ∙ e ∙ take_all j (box_ends axes box) (omega (arith, as_many_ends axes box))
+pub all_ends : (later : List Axis) (after : Box) (es : List Held) → later ≡ [] → map closed_ends es ≡ map closed_ends es ++ box_ends later after
+all_ends later after es none = sym (ap (λ ls. map closed_ends es ++ box_ends ls after) none ∙ append-nil _)
 
 -- a part beyond the axes has no ends
 pub no_more_ends : (axes : List Axis) (box : Box) → box_ends axes (take (length axes) box) ≡ box_ends axes box

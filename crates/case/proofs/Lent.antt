@@ -1,6 +1,5 @@
 -- What is lent to the questions about the newest box, in the words of the search.
 use Rattle.std.proofs.Common.{◌≡◌, ℕ, Bool, true, List, map, length, take, Option, sym, ap, ◌∙◌, ap₂, arith}
-use Rattle.std.proofs.lemmas.List.{take-map}
 use Rattle.std.proofs.Math.Seq.{take-append_seam}
 use Rattle.algebra.specs.Pair.{Pair}
 use Rattle.number.specs.declared.number.Number.{Ghosts}
@@ -34,13 +33,13 @@ module _ {K : Type 0} {N : Ghosts K} (k : Case K N) (lent : List Axis) (all : le
   as_many_lent : length lent ≡ axes k
   as_many_lent = omega (arith, ap length all)
 
-  pub halvings_lent : (r : Record) (halvings : List ℕ) → halvings ≡ halvings_of r → take (length lent) halvings ≡ halvings_of (box_of (axes k) r)
-  halvings_lent r halvings e = ap₂ take as_many_lent e ∙ take-map (λ p. p.halvings) (axes k) r
+  pub halvings_lent : (r : Record) (halvings : List ℕ) → halvings ≡ halvings_of (box_of (length lent) r) → halvings ≡ halvings_of (box_of (axes k) r)
+  halvings_lent r halvings e = e ∙ ap (λ n. halvings_of (box_of n r)) as_many_lent
 
   pub lowest_lent : (degrees : List ℕ) (r : Record) (relation : Relation) (ends : List Ends) (patch : List Pair) (number : Option ℕ) → degrees ≡ k.degrees.items → relation ≡ (turned (ticket_of k)).relation →
-      map ends_of (take (length lent) ends) ≡ box_ends lent r →
-      number ≡ lowest_broken relation degrees (map ends_of (take (length lent) ends)) patch →
+      map ends_of ends ≡ box_ends lent r →
+      number ≡ lowest_broken relation degrees (map ends_of ends) patch →
       number ≡ lowest_broken (turned (ticket_of k)).relation (degrees_of (ticket_of k).axes) (box_ends (ticket_of k).axes (box_of (axes k) r)) patch
   lowest_lent degrees r relation ends patch number d q e f =
-      f ∙ ap (λ x. lowest_broken x degrees (map ends_of (take (length lent) ends)) patch) q
+      f ∙ ap (λ x. lowest_broken x degrees (map ends_of ends) patch) q
       ∙ ap₂ (λ ns es. lowest_broken (turned (ticket_of k)).relation ns es patch) (d ∙ k.shaped) (e ∙ ap (λ xs. box_ends xs r) all ∙ sym (no_more_ends (ticket_of k).axes r))

@@ -35,6 +35,7 @@ fn ask<K: Number, C: Chooser>(
     ensures answer { result ≡ C.meaning chooser.old (told degrees.now halvings.now depth (map K.means patch.now)) }
     ensures same { C.meaning chooser.new ≡ C.meaning chooser.old }
 {
+    // A fixed buffer, cut to the patch's length: no call of a case allocates, and write_signs fills a slice that is there.
     let mut signs = [Sign::Zero; 128];
     write_signs(patch, &mut signs).unwrap();
     chooser.choose(Question {
@@ -64,16 +65,15 @@ impl<K: Number> Case<K> {
         let axes = self.ticket.ticket.axes.as_slice();
         let degrees = self.degrees.as_slice();
         let ends = newest.ends(axes);
-        if let Some(corner) = broken_corner(relation, degrees, &ends[..axes.len()], patch) {
+        if let Some(corner) = broken_corner(relation, degrees, ends.as_slice(), patch) {
             return Judgement::Broken(corner);
         }
-        let halvings = newest.halvings();
-        let halvings = &halvings[..axes.len()];
-        let level = level(halvings);
+        let halvings = newest.halvings(axes.len());
+        let level = level(&halvings);
         if level == self.depth {
             return Judgement::Deep;
         }
-        let (axis, first) = ask(degrees, halvings, level, patch, chooser);
+        let (axis, first) = ask(degrees, halvings.as_slice(), level, patch, chooser);
         Judgement::Undecided(axis, first)
     }
 }

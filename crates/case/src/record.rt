@@ -1,13 +1,14 @@
 // A waiting box.
-ghost use Rattle.std.specs.Prelude.{◌≡◌, ◌<◌, ◌≤◌, map, length, take, slice_index_or};
+ghost use Rattle.std.specs.Prelude.{◌≡◌, ◌<◌, ◌≤◌, map, length, slice_index_or};
 ghost use Rattle.patch.specs.Box.{entire, half_box, box_ends};
 ghost use Rattle.patch.specs.Corners.{ends_of};
 ghost use Rattle.patch.specs.Point.{sum_of};
 ghost use Rattle.search.specs.Search.{halvings_of};
-ghost use Rattle.case.specs.Records.{whole_record};
+ghost use Rattle.case.specs.Records.{whole_record, box_of};
 
 use crate::part::Part;
 use algebra::Half;
+use arrayvec::ArrayVec;
 use patch::Ends;
 use std::marker::Model;
 use ticket::Axis;
@@ -41,11 +42,16 @@ impl Record {
         }
     }
 
-    // How often it was halved along each axis.
-    pub(crate) fn halvings(&self) -> [u8; 4]
-        ensures { result ≡ halvings_of self.now }
+    // How often it was halved along each of the axes.
+    pub(crate) fn halvings(&self, axes: usize) -> ArrayVec<u8, 4>
+        requires { axes ≤ 4 }
+        ensures { result.items ≡ halvings_of (box_of axes self.now) }
     {
-        self.parts.map(|part| part.halvings())
+        let mut halvings = ArrayVec::new();
+        for part in &self.parts[..axes] {
+            halvings.push(part.halvings());
+        }
+        halvings
     }
 
     // The half along an axis.
@@ -59,27 +65,21 @@ impl Record {
     }
 
     // Its ends, for each axis that there is.
-    pub(crate) fn ends(&self, axes: &[Axis]) -> [Ends; 4]
+    pub(crate) fn ends(&self, axes: &[Axis]) -> ArrayVec<Ends, 4>
         requires { length axes.now ≤ 4 }
-        ensures { map ends_of (take (length axes.now) result) ≡ box_ends axes.now self.now }
+        ensures { map ends_of result.items ≡ box_ends axes.now self.now }
     {
-        let closed = Ends {
-            lower_closed: true,
-            upper_closed: true,
-        };
-        let mut ends = [closed; 4];
-        // By number: of what iter_mut lends through zip, a proof knows only the length afterwards.
-        for (j, axis) in axes.iter().enumerate() {
-            ends[j] = self.parts[j].ends(axis);
+        let mut ends = ArrayVec::new();
+        for (axis, part) in axes.iter().zip(&self.parts) {
+            ends.push(part.ends(axis));
         }
         ends
     }
 }
 
 // How often a box was halved, from its halvings along each axis.
-pub(crate) fn level(halvings: &[u8]) -> u32
-    requires { length halvings.now ≤ 4 }
-    ensures { result ≡ sum_of halvings.now }
+pub(crate) fn level(halvings: &ArrayVec<u8, 4>) -> u32
+    ensures { result ≡ sum_of halvings.now.items }
 {
     halvings.iter().map(|h| u32::from(*h)).sum()
 }

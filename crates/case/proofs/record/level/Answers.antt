@@ -9,5 +9,5 @@ added_up (x ∷ xs) = sum_by-cons (λ x. x) x xs ∙ ap (λ n. x + n) (added_up 
 
 pub returns : goal.returns
 returns c =
-    let e : c.sum.result ≡ sum c.args.halvings.now = search rules in
-    e ∙ added_up c.args.halvings.now
+    let e : c.sum.result ≡ sum c.args.halvings.now.items = search rules in
+    e ∙ added_up c.args.halvings.now.items

@@ -1,7 +1,10 @@
-use Rattle.std.proofs.Common.{◌≡◌, map, length, take}
+use Rattle.std.proofs.Common.{◌≡◌, ◌+◌, ◌≤◌, ◌++◌, map, length}
 use Rattle.patch.specs.Box.{box_ends}
 use Rattle.patch.specs.Corners.{ends_of}
 use Rattle.case.proofs.record.Record.ends.Given as goal
 
-abbrev pub invariant-loop-j : goal.invariant-loop-j
-invariant-loop-j l = (length l.ends ≡ 4) × (map ends_of (take l.j l.ends) ≡ take l.j (box_ends l.axes l.self-inside.parts))
+abbrev pub invariant-loop-axis : goal.invariant-loop-axis
+invariant-loop-axis l =
+    let later = l.axis-iterator.a.rest.now in
+    let after = l.axis-iterator.b.rest.now in
+    (map ends_of l.ends.items ++ box_ends later after ≡ box_ends l.axes l.self) × (length l.ends.items + length later ≡ length l.axes) × (length later ≤ length after)

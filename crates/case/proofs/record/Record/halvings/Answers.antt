@@ -1,20 +1,23 @@
-use Rattle.std.proofs.Common.{◌≡◌, ℕ, ◌<◌, length, get_or, sym, ap, ◌∙◌, rules, arith}
+use Rattle.std.proofs.Common.{◌<◌, ◌++◌, [], ◌∷◌, length, take, sym, ap, ap₂, ◌∙◌, rules, arith}
+use Rattle.std.proofs.lemmas.List.{take_more, take_all, map_push, length-take}
 use lib.ListN.{length-map}
-use Rattle.std.proofs.lemmas.List.{ext_get_or, get_or-map}
-use Rattle.patch.specs.Box.{entire}
 use Rattle.search.specs.Search.{halvings_of}
 use Rattle.case.proofs.record.Record.halvings.Goals as goal
 
-each : (c : goal.After-map) (i : ℕ) → i < 4 → get_or c.map.result i 0 ≡ (get_or c.self.inside.parts i entire).halvings
-each c i l =
-    let h = c.map.ensures.items.at i entire 0 l in
-    let called = h.2.met in
+pub push-requires : goal.push-requires
+push-requires c =
+    let items = take c.args.axes c.self.inside.parts in
+    let room : length c.loop-part.halvings.items < 4 = omega (arith, c.requires, c.loop-part-test.true, ap length c.loop-part.invariant, length-map (take c.loop-part.part-index items) (λ p. p.halvings), length-take c.loop-part.part-index items, length-take c.args.axes c.self.inside.parts) in
     search rules
+
+pub loop-part-preserved : goal.loop-part-preserved
+loop-part-preserved c =
+    let items = take c.args.axes c.self.inside.parts in
+    let i = c.loop-part.part-index in
+    c.push.ensures.items ∙ ap₂ (λ xs h. xs ++ h ∷ []) c.loop-part.invariant (c.halvings.ensures ∙ ap (λ p. p.halvings) c.part-item.is)
+    ∙ sym (ap halvings_of (take_more items i c.part-item.result c.loop-part-test.true) ∙ map_push (λ p. p.halvings) (take i items) _)
 
 pub returns : goal.returns
 returns c =
-    let parts = c.self.inside.parts in
-    let four : length parts ≡ 4 = c.self.invariant in
-    ext_get_or 0 c.map.result (halvings_of parts) (omega (arith, c.map.ensures.items.long, length-map parts (λ p. p.halvings)))
-    (λ i l. each c i (omega (arith, c.map.ensures.items.long)) ∙ sym (get_or-map (λ p. p.halvings) parts i entire 0 (omega (arith, c.map.ensures.items.long))))
-    ∙ ap halvings_of c.self.view_is
+    let items = take c.args.axes c.self.inside.parts in
+    c.loop-part.invariant ∙ ap halvings_of (take_all c.loop-part.part-index items (omega (arith, c.loop-part-test.false)) ∙ ap (take c.args.axes) c.self.view_is)
