@@ -8,9 +8,9 @@ use Rattle.patch.specs.Corners.{ends_of as closed_ends}
 use Rattle.patch.specs.Judging.{Ends}
 use Rattle.patch.specs.declared.ends.Ends.{Ends as Held}
 
-part_of_rest : (box : Box) (j : ℕ) → get_or (rest box) j entire ≡ get_or box (suc j) entire
-part_of_rest [] j = refl
-part_of_rest (x ∷ xs) j = refl
+pub at_rest : {X : Type 0} (xs : List X) (j : ℕ) (d : X) → get_or (rest xs) j d ≡ get_or xs (suc j) d
+at_rest [] j d = refl
+at_rest (x ∷ xs) j d = refl
 
 as_many_ends : (axes : List Axis) (box : Box) → length (box_ends axes box) ≡ length axes
 as_many_ends [] box = refl
@@ -19,7 +19,7 @@ as_many_ends (a ∷ axes) box = ap suc (as_many_ends axes (rest box))
 ends_at : (axes : List Axis) (box : Box) (j : ℕ) (a : Axis) (e : Ends) → j < length axes → get_or (box_ends axes box) j e ≡ ends_of (get_or axes j a) (get_or box j entire)
 ends_at [] box j a e l = absurd (omega arith)
 ends_at (b ∷ axes) box zero a e l = refl
-ends_at (b ∷ axes) box (suc j) a e l = ends_at axes (rest box) j a e (omega arith) ∙ ap (ends_of (get_or axes j a)) (part_of_rest box j)
+ends_at (b ∷ axes) box (suc j) a e l = ends_at axes (rest box) j a e (omega arith) ∙ ap (ends_of (get_or axes j a)) (at_rest box j entire)
 
 no_ends : Ends
 no_ends = closed_ends (record { lower_closed = true; upper_closed = true })
