@@ -1,5 +1,6 @@
 pub mod Newest
 pub mod EndsOfBox
+pub mod Corner
 pub mod BoxOf
 pub mod Soundness
 pub mod Pieces
@@ -10,5 +11,6 @@ pub mod Examined
 pub mod Ran
 pub mod CeilingTable
 pub mod Told
+pub mod Pointed
 pub mod Starting
 pub mod Deepened

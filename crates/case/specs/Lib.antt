@@ -1,4 +1,5 @@
 pub mod Records
+pub mod Corner
 pub mod Held
 pub mod Sound
 pub mod Judgement

@@ -1,5 +1,5 @@
 -- The search that a case and its workspace stand for.
-use Rattle.std.specs.Prelude.{ℕ, ◌*◌, List, [], ◌∷◌, length, Ok, Err, Option, Result}
+use Rattle.std.specs.Prelude.{ℕ, ◌*◌, List, [], ◌∷◌, map, length, Ok, Err, Option, Result}
 use Rattle.std.specs.Option.{option_map}
 use Rattle.algebra.specs.Pair.{Pair}
 use Rattle.number.specs.declared.number.Number.{Ghosts}
@@ -9,9 +9,12 @@ use Rattle.ticket.specs.declared.records.Axis.{Axis}
 use Rattle.patch.specs.Box.{Coordinate, coordinates}
 use Rattle.patch.specs.Corners.{corner_of}
 use Rattle.patch.specs.Halving.{part}
+use Rattle.search.specs.Points.{means}
 use Rattle.search.specs.Search.{Piece, Search}
-use Rattle.search.specs.Calls.{Reply, ran, deepened, refused}
+use Rattle.search.specs.Calls.{Reply, ran, deepened, pointed, refused}
 use Rattle.search.specs.declared.call.CallRefusal.{CallRefusal}
+use Rattle.search.specs.declared.coordinate.Coordinate.{Coordinate as Held}
+use Rattle.arrayvec.specs.ArrayVec.{ArrayVec}
 use Rattle.case.specs.Records.{box_of}
 use Rattle.case.specs.declared.record.Record.{Record}
 use Rattle.case.specs.declared.case.Case.{Case}
@@ -46,7 +49,7 @@ model k work = record {
 abbrev pub piece_of : Content → Record → List Pair → Piece
 piece_of c r patch = record { box = box_of (length c.axes) r; patch = patch }
 
--- ---- what a run and a deepening answer
+-- ---- what a run, a deepening and a point answer
 abbrev pub run_reply : Result ℕ CallRefusal → Reply
 run_reply (Ok n) = ran n
 run_reply (Err why) = refused why
@@ -54,3 +57,7 @@ run_reply (Err why) = refused why
 abbrev pub deepen_reply : Result ℕ CallRefusal → Reply
 deepen_reply (Ok d) = deepened d
 deepen_reply (Err why) = refused why
+
+abbrev pub point_reply : Result (ArrayVec Held) CallRefusal → Reply
+point_reply (Ok xs) = pointed (map means xs.items)
+point_reply (Err why) = refused why

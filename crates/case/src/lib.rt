@@ -7,6 +7,7 @@ mod deepening;
 mod judgement;
 mod judging;
 mod part;
+mod pointing;
 mod record;
 mod running;
 mod telling;

@@ -1,10 +1,13 @@
 // A part of an axis.
-ghost use Rattle.std.specs.Prelude.{◌≡◌, ◌<◌};
-ghost use Rattle.patch.specs.Box.{half_part, entire, ends_of as ends_of_part};
+ghost use Rattle.std.specs.Prelude.{◌≡◌, ◌^◌, ◌<◌, ◌≤◌};
+ghost use Rattle.patch.specs.Box.{half_part, entire, end_place, ends_of as ends_of_part};
 ghost use Rattle.patch.specs.Corners.{ends_of};
+ghost use Rattle.search.specs.Points.{means};
+ghost use Rattle.case.specs.Corner.{end_coordinate};
 
 use algebra::Half;
 use patch::Ends;
+use search::Coordinate;
 use std::marker::Model;
 use ticket::Axis;
 
@@ -67,6 +70,31 @@ impl Part {
         Ends {
             lower_closed: !(axis.lower_open && self.place == 0),
             upper_closed: !(axis.upper_open && u64::from(self.place) + 1 == 1 << self.halvings),
+        }
+    }
+
+    // The place of one of its ends.
+    fn end_place(self, end: Half) -> u32
+        ensures value { result ≡ end_place end self }
+        ensures within { result ≤ 2 ^ self.halvings }
+    {
+        match end {
+            Half::Lower => self.place,
+            Half::Upper => self.place + 1,
+        }
+    }
+
+    // Where it ends on its axis, over 2^halvings and not reduced.
+    pub(crate) fn end(self, axis: &Axis, end: Half) -> Coordinate
+        ensures { means result ≡ end_coordinate end axis.now self }
+    {
+        let place = i64::from(self.end_place(end));
+        let parts = i64::from(1u32 << self.halvings);
+        let lower = i64::from(axis.lower);
+        let width = i64::from(axis.upper) - lower;
+        Coordinate {
+            numerator: lower * parts + width * place,
+            power: self.halvings,
         }
     }
 }

@@ -1,8 +1,9 @@
 // A waiting box.
-ghost use Rattle.std.specs.Prelude.{◌≡◌, ◌<◌, ◌≤◌, map, length, slice_index_or};
-ghost use Rattle.patch.specs.Box.{entire, half_box, box_ends};
-ghost use Rattle.patch.specs.Corners.{ends_of};
+ghost use Rattle.std.specs.Prelude.{◌≡◌, ◌/◌, ◌%◌, ◌^◌, ◌<◌, ◌≤◌, map, length, slice_index_or};
+ghost use Rattle.patch.specs.Box.{entire, half_box, box_ends, coordinates};
+ghost use Rattle.patch.specs.Corners.{ends_of, end_of, corner_of};
 ghost use Rattle.patch.specs.Point.{sum_of};
+ghost use Rattle.search.specs.Points.{means};
 ghost use Rattle.search.specs.Search.{halvings_of};
 ghost use Rattle.case.specs.Records.{whole_record, box_of};
 
@@ -10,6 +11,7 @@ use crate::part::Part;
 use algebra::Half;
 use arrayvec::ArrayVec;
 use patch::Ends;
+use search::Coordinate;
 use std::marker::Model;
 use ticket::Axis;
 
@@ -74,6 +76,33 @@ impl Record {
             ends.push(part.ends(axis));
         }
         ends
+    }
+
+    // The point of the corner with this number, by axis.
+    pub(crate) fn corner(&self, axes: &[Axis], corner: u32) -> ArrayVec<Coordinate, 4>
+        requires { length axes.now ≤ 4 }
+        ensures { map means result.items ≡ coordinates axes.now self.now (corner_of (length axes.now) corner) }
+    {
+        let mut point = ArrayVec::new();
+        // By number, which also says how many axes come after: zipped with the parts, each item would be a pair in a pair.
+        for (j, axis) in axes.iter().enumerate() {
+            let used = end_used(corner, axes.len() - 1 - j);
+            point.push(self.parts[j].end(axis, used));
+        }
+        point
+    }
+}
+
+// The end that the corner with this number uses on an axis, by how many axes come after it. Crate `patch` reads it too, but bound to a
+// patch's numbers: a shift is no plainer for being shared.
+fn end_used(corner: u32, later: usize) -> Half
+    requires { later < 4 }
+    ensures { result ≡ end_of (corner / 2 ^ later % 2) }
+{
+    if (corner >> later) % 2 == 1 {
+        Half::Upper
+    } else {
+        Half::Lower
     }
 }
 

@@ -1,21 +1,12 @@
 -- What is printed of each answer.
 use Rattle.std.specs.Prelude.{ℕ, List, ◌∷◌, ◌++◌, map, codes, decimal}
-use Rattle.std.specs.Fmt.{signed_decimal}
 use Rattle.std.specs.List.{flat_map}
 use Rattle.patch.specs.Box.{Coordinate}
 use Rattle.search.specs.Calls.{Reply, ran, deepened, told, pointed, refused, refusal_number}
-use Rattle.search.specs.Text.{verdict_text}
+use Rattle.search.specs.Points.{means}
+use Rattle.search.specs.Text.{coordinate_text, verdict_text}
 use Rattle.orders.specs.declared.answer.Answer.{Answer}
 use Rattle.orders.specs.declared.answer.Answer.TheVariants.{Ran, Deepened, Told, Pointed, Refused}
-use Rattle.orders.specs.declared.coordinate.Coordinate.{Coordinate as Held}
-
--- the coordinate that the code's struct holds
-abbrev pub means : Held → Coordinate
-means x = record { numerator = x.numerator; power = x.power }
-
--- the numerator, and which power of two it is over
-abbrev pub coordinate_text : Coordinate → List ℕ
-coordinate_text x = signed_decimal x.numerator ++ 47 ∷ decimal x.power
 
 abbrev pub coordinates_text : List Coordinate → List ℕ
 coordinates_text xs = flat_map (λ x. 32 ∷ coordinate_text x) xs

@@ -1,9 +1,9 @@
 // Answers as text, each one line without its end.
 ghost use Rattle.std.specs.Prelude.{map, Some};
-ghost use Rattle.orders.specs.Answers.{means, coordinate_text, coordinates_text, answer_text};
+ghost use Rattle.search.specs.Points.{means};
+ghost use Rattle.orders.specs.Answers.{coordinates_text, answer_text};
 
-use super::coordinate::Coordinate;
-use search::Verdict;
+use search::{Coordinate, Verdict};
 use std::fmt::{Display, Formatter, Result, Write};
 
 // What is answered to an order.
@@ -49,16 +49,5 @@ impl<'a> Display for Coordinates<'a> {
             write!(f, " {x}")?;
         }
         Ok(())
-    }
-}
-
-// A numerator and the exponent of the power of two below it, as `-3/0`.
-impl Display for Coordinate {
-    ghost output = { λ x. Some (coordinate_text (means x)) };
-
-    fn fmt<W: Write>(&self, f: &mut Formatter<W>) -> Result {
-        let numerator = self.numerator;
-        let power = self.power;
-        write!(f, "{numerator}/{power}")
     }
 }

@@ -10,7 +10,6 @@
 #![tactic(auto)]
 
 mod answer;
-mod coordinate;
 mod lines;
 mod order;
 mod refusal;
@@ -18,7 +17,7 @@ mod refusal;
 mod tests;
 
 pub use answer::Answer;
-pub use coordinate::Coordinate;
 pub use lines::{MOST_BYTES, admit, next_line};
 pub use order::call;
 pub use refusal::OrderRefusal;
+pub use search::Coordinate;

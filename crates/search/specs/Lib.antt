@@ -3,4 +3,5 @@ pub mod Calls
 pub mod Courses
 pub mod Law
 pub mod Examples
+pub mod Points
 pub mod Text

@@ -1,6 +1,8 @@
--- A word and a verdict as text.
-use Rattle.std.specs.Prelude.{ℕ, List, codes, decimal}
+-- A word, a verdict and a coordinate as text.
+use Rattle.std.specs.Prelude.{ℕ, List, ◌∷◌, ◌++◌, codes, decimal}
+use Rattle.std.specs.Fmt.{signed_decimal}
 use Rattle.ticket.specs.Text.{spaced}
+use Rattle.patch.specs.Box.{Coordinate}
 use Rattle.search.specs.declared.verdict.Verdict.{Verdict}
 use Rattle.search.specs.declared.word.Word.{Word}
 use Rattle.search.specs.declared.word.Word.TheVariants.{Running, Fails, Holds, Open}
@@ -18,3 +20,7 @@ verdict_text v =
     (spaced (decimal v.examined)
     (spaced (decimal v.waiting)
     (spaced (decimal v.aside_depth) (decimal v.aside_range))))
+
+-- the numerator, and which power of two it is over
+abbrev pub coordinate_text : Coordinate → List ℕ
+coordinate_text x = signed_decimal x.numerator ++ 47 ∷ decimal x.power

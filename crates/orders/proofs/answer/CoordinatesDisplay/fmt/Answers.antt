@@ -3,7 +3,8 @@ use Rattle.std.specs.List.{flat_map}
 use Rattle.std.proofs.Output.{has_written_of_eq}
 use Rattle.std.proofs.lemmas.List.{take_all}
 use Rattle.std.proofs.lemmas.List.Folds.{flat_map-map}
-use Rattle.orders.specs.Answers.{means, coordinate_text}
+use Rattle.search.specs.Points.{means}
+use Rattle.search.specs.Text.{coordinate_text}
 use Rattle.orders.proofs.answer.CoordinatesDisplay.fmt.Goals as goal
 
 pub returns-clause-writes : goal.returns-clause-writes

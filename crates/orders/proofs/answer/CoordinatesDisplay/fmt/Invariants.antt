@@ -2,7 +2,8 @@
 use Rattle.std.proofs.Common.{◌∷◌, take}
 use Rattle.std.specs.Fmt.{IsPlainFormatter, HasWritten}
 use Rattle.std.specs.List.{flat_map}
-use Rattle.orders.specs.Answers.{means, coordinate_text}
+use Rattle.search.specs.Points.{means}
+use Rattle.search.specs.Text.{coordinate_text}
 use Rattle.orders.proofs.answer.CoordinatesDisplay.fmt.Given as goal
 
 abbrev pub invariant-loop-x : goal.invariant-loop-x
