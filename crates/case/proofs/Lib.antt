@@ -14,3 +14,4 @@ pub mod Told
 pub mod Pointed
 pub mod Starting
 pub mod Deepened
+pub mod Untaken

@@ -6,6 +6,7 @@ mod ceilings;
 mod deepening;
 mod judgement;
 mod judging;
+mod making;
 mod part;
 mod pointing;
 mod record;

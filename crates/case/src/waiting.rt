@@ -32,6 +32,15 @@ impl Model for Waiting {
 }
 
 impl Waiting {
+    pub(crate) fn empty() -> Waiting
+        ensures { result ≡ [] }
+    {
+        Waiting {
+            records: [Record::whole(); 25],
+            len: 0,
+        }
+    }
+
     pub(crate) fn len(&self) -> usize
         ensures count { result ≡ length self.now }
         ensures few { result ≤ 25 }
