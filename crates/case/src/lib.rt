@@ -12,4 +12,6 @@ mod pointing;
 mod record;
 mod running;
 mod telling;
+#[cfg(test)]
+mod tests;
 mod waiting;
