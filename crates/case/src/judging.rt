@@ -35,7 +35,7 @@ fn ask<K: Number, C: Chooser>(
     ensures answer { result ≡ C.meaning chooser.old (told degrees.now halvings.now depth (map K.means patch.now)) }
     ensures same { C.meaning chooser.new ≡ C.meaning chooser.old }
 {
-    // A fixed buffer, cut to the patch's length: no call of a case allocates, and write_signs fills a slice that is there.
+    // A fixed buffer, cut to the patch's length: no call on a case allocates, and write_signs fills a slice that is there.
     let mut signs = [Sign::Zero; 128];
     write_signs(patch, &mut signs).unwrap();
     chooser.choose(Question {

@@ -15,7 +15,7 @@ use search::Coordinate;
 use std::marker::Model;
 use ticket::Axis;
 
-// Of each axis a part. The axes that a ticket has come first; there is room for four, since no call of a case allocates.
+// Of each axis a part. The axes that a ticket has come first; there is room for four, since no call on a case allocates.
 #[derive(Clone, Copy)]
 pub(crate) struct Record {
     parts: [Part; 4],
