@@ -10,7 +10,7 @@ use Rattle.algebra.specs.contracts.sign.Sign.{the_type}
 use Rattle.patch.proofs.Rows.{next_row}
 use Rattle.algebra.specs.declared.sign.Sign.{Sign}
 use Rattle.algebra.specs.declared.sign.Sign.TheVariants.{Negative, Zero, Positive}
-use Rattle.chooser.specs.BySigns.{tally, differ, differ_at}
+use Rattle.chooser.specs.BySigns.{is_negative, tally, differ, differ_at}
 
 one_at_most : (t : Bool) → cond t 1 0 ≤ 1
 one_at_most true = omega arith
@@ -19,6 +19,17 @@ one_at_most false = omega arith
 pub tally_le : (test : ℕ → Bool) (from n : ℕ) → tally test from n ≤ n
 tally_le test from zero = omega arith
 tally_le test from (suc n) = omega (arith, tally_le test from n, one_at_most (test (from + n)))
+
+-- ---- a loop has come to place k
+module _ (test : ℕ → Bool) (from k m : ℕ) (e : m ≡ tally test from k) where
+  next : tally test from (k + 1) ≡ m + cond (test (from + k)) 1 0
+  next = ap (tally test from) (add-one k) ∙ ap (λ t. t + cond (test (from + k)) 1 0) (sym e)
+
+  pub tally_yes : test (from + k) ≡ true → m + 1 ≡ tally test from (k + 1)
+  tally_yes h = sym (next ∙ ap (λ t. m + cond t 1 0) h)
+
+  pub tally_no : test (from + k) ≡ false → m ≡ tally test from (k + 1)
+  tally_no h = sym (next ∙ ap (λ t. m + cond t 1 0) h ∙ add-zero m)
 
 -- ---- parts
 pub tally_parts : (test : ℕ → Bool) (from m n : ℕ) → tally test from (m + n) ≡ tally test from m + tally test (from + m) n
@@ -86,6 +97,11 @@ differ_is Zero Positive = refl
 differ_is Positive Negative = refl
 differ_is Positive Zero = refl
 differ_is Positive Positive = refl
+
+pub same_as_negative : (a : Sign) → sameb the_type a Negative ≡ is_negative a
+same_as_negative Negative = refl
+same_as_negative Zero = refl
+same_as_negative Positive = refl
 
 -- of the pairs of an element and the one a stride further on
 pub tally_of_pairs : (signs : List Sign) (s : ℕ) → count_by (λ (p : Sign × Sign). differ p.0 p.1) (zip signs (drop s signs)) ≡ tally (differ_at signs s) 0 (length signs - s)

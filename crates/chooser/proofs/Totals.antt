@@ -1,19 +1,18 @@
 -- The sums of what is counted in each piece of a patch.
-use Rattle.std.proofs.Common.{◌≡◌, ℕ, ◌+◌, ◌-◌, ◌*◌, ◌/◌, ◌<◌, ◌≤◌, Bool, true, List, [], ◌∷◌, refl, length, get_or, Option, Some, None, IfSome, IsSomeAnd, sym, ap, ap₂, ◌∙◌, subst, arith, sum, zero-add, mul_assoc, add-mul}
-use Rattle.std.proofs.Math.Nat.{mul-le-mul_right, mul-div_cancel, lt_of_mul-lt-mul_right}
+use Rattle.std.proofs.Common.{◌≡◌, ℕ, ◌+◌, ◌-◌, ◌*◌, ◌/◌, ◌<◌, ◌≤◌, Bool, true, List, [], ◌∷◌, refl, length, get_or, take, drop, Option, Some, None, IfSome, IsSomeAnd, sym, ap, ap₂, ◌∙◌, subst, arith, sum, zero-add}
+use Rattle.std.proofs.Math.Nat.{mul-div_cancel}
+use Rattle.std.proofs.lemmas.List.{get_or-take, get_or-drop}
 use Rattle.std.specs.Option.{option_map}
 use Rattle.std.specs.Iterator.{ActsAs, Yields, CallableAtEachTurn}
-use Rattle.std.specs.Iterator.Adapters.{map_steps, skip_steps, step_by_steps}
-use Rattle.std.specs.Iterator.Runs.{Run, EachRunFrom, EveryRun, SomeRun, IsMapRun, IsSkipRun, IsStepByRun, IsChunksExactRun}
+use Rattle.std.specs.Iterator.Adapters.{map_steps}
+use Rattle.std.specs.Iterator.Runs.{Run, EachRunFrom, EveryRun, SomeRun, IsMapRun, IsChunksExactRun}
 use Rattle.std.specs.Slice.Iter.{chunks_exact_size, chunks_exact_rest, chunks_exact_steps}
 use Rattle.std.specs.declared.slice.ChunksExact.{ChunksExact}
 use Rattle.std.specs.declared.iter.Map.{Map}
-use Rattle.std.specs.declared.iter.Skip.{Skip}
-use Rattle.std.specs.declared.iter.StepBy.{StepBy}
 use Rattle.std.specs.List.{IsSubsliceAt, FoldsTo}
 use denote.Param.Members.{Mut, Called}
 use denote.Ref.{Bor}
-use Rattle.patch.proofs.Rows.{next_row}
+use Rattle.patch.proofs.Rows.{next_row, row_end}
 use Rattle.patch.specs.declared.shape.Shape.{Shape}
 use Rattle.algebra.specs.declared.sign.Sign.{Sign}
 use Rattle.algebra.specs.declared.sign.Sign.TheVariants.{Zero}
@@ -81,19 +80,24 @@ module _ (shape : Shape) (signs : List Sign) (lie : Lie shape (length signs)) wh
       ∙ sym (block_changes n s k lie.some_stride (differ_at signs s))
 
   -- the index-th row of block k
-  row_place : (k index : ℕ) → (index + k * (shape.degree + 1)) * shape.stride ≡ k * ((shape.degree + 1) * shape.stride) + index * shape.stride
-  row_place k index = omega (arith, add-mul index (k * (shape.degree + 1)) shape.stride, mul_assoc k (shape.degree + 1) shape.stride)
-
-  negatives_of_row : (index : ℕ) → index ≤ shape.degree → (k : ℕ) (x : List Sign) → length x ≡ shape.stride → IsSubsliceAt shape.stride signs ((index + k * (shape.degree + 1)) * shape.stride) x
-      → tally (negative_at x) 0 (length x) ≡ tally (negative_in shape index signs) (k * ((shape.degree + 1) * shape.stride)) ((shape.degree + 1) * shape.stride)
-  negatives_of_row index l k x e sub =
+  negatives_of_block : (index : ℕ) → index ≤ shape.degree → (k : ℕ) (x : List Sign) → length x ≡ (shape.degree + 1) * shape.stride
+      → IsSubsliceAt ((shape.degree + 1) * shape.stride) signs (k * ((shape.degree + 1) * shape.stride)) x
+      → tally (negative_at (take shape.stride (drop (index * shape.stride) x))) 0 shape.stride
+      ≡ tally (negative_in shape index signs) (k * ((shape.degree + 1) * shape.stride)) ((shape.degree + 1) * shape.stride)
+  negatives_of_block index l k x e sub =
       let n : ℕ = shape.degree in
       let s : ℕ = shape.stride in
-      let from : ℕ = k * ((n + 1) * s) + index * s in
-      ap (tally (negative_at x) 0) e
-      ∙ tally_same (negative_at x) (negative_at signs) 0 from s
+      let from : ℕ = k * ((n + 1) * s) in
+      let row : List Sign = take s (drop (index * s) x) in
+      tally_same (negative_at row) (negative_at signs) 0 (from + index * s) s
       (λ i h.
-      ap is_negative (ap (λ j. get_or x j Zero) (zero-add i) ∙ sub.2 i Zero h ∙ ap (λ j. get_or signs (j + i) Zero) (row_place k index)))
+      let inside : index * s + i < (n + 1) * s = omega (arith, row_end s index (n + 1) (omega arith)) in
+      ap is_negative
+      (ap (λ j. get_or row j Zero) (zero-add i)
+      ∙ get_or-take s (drop (index * s) x) i Zero h
+      ∙ get_or-drop (index * s) x i Zero
+      ∙ sub.2 (index * s + i) Zero inside
+      ∙ ap (λ j. get_or signs j Zero) (let a : from + (index * s + i) ≡ from + index * s + i = omega arith in a)))
       ∙ sym (block_row n s k lie.some_stride (negative_at signs) index l)
 
   module _ {F : Type 0} (g : Mut F (Bor (List Sign) × Unit {0}) ℕ) (f : F) (pieces : ChunksExact Sign)
@@ -115,35 +119,18 @@ module _ (shape : Shape) (signs : List Sign) (lie : Lie shape (length signs)) wh
         r.0
         (λ h. ap (λ l. l * b) (r.1 h ∙ ap (λ c. c / b) (sym lie.all) ∙ mul-div_cancel shape.blocks (some_block shape (length signs) lie)) ∙ lie.all)
 
-    pub negatives_of_rows : (index skipped apart : ℕ) → index ≤ shape.degree → skipped ≡ index → apart ≡ shape.degree → (later : Skip (ChunksExact Sign)) (each : StepBy (Skip (ChunksExact Sign))) (counts : Map (StepBy (Skip (ChunksExact Sign))) F)
-        → EachRunFrom (skip_steps (chunks_exact_steps {A = Sign})) later (λ p. SomeRun (chunks_exact_steps {A = Sign}) pieces (λ q. IsSkipRun p q skipped))
-        → EachRunFrom (step_by_steps (skip_steps (chunks_exact_steps {A = Sign}))) each (λ p. SomeRun (skip_steps (chunks_exact_steps {A = Sign})) later (λ q. IsStepByRun p q (apart + 1)))
-        → EachRunFrom (map_steps (step_by_steps (skip_steps (chunks_exact_steps {A = Sign}))) g) counts (λ p. SomeRun (step_by_steps (skip_steps (chunks_exact_steps {A = Sign}))) each (λ q. IsMapRun p q g f))
-        → chunks_exact_size pieces ≡ shape.stride → ActsAs g f (λ x. tally (negative_at x.now) 0 (length x.now))
-        → (p : Run (map_steps (step_by_steps (skip_steps (chunks_exact_steps {A = Sign}))) g)) → p.from ≡ counts
-        → (sum p.items ≤ length signs) × (p.whole ≡ true → sum p.items ≡ tally (negative_in shape index signs) 0 (length signs))
-    negatives_of_rows index skipped apart l i a later each counts skips steps maps size acts p e =
-        let n : ℕ = shape.degree in
-        let s : ℕ = shape.stride in
-        let b : ℕ = (n + 1) * s in
-        let rows : ℕ = shape.blocks * (n + 1) in
-        let all : rows * s ≡ length signs = mul_assoc shape.blocks (n + 1) s ∙ lie.all in
+    pub negatives_of_blocks : (index : ℕ) → index ≤ shape.degree → (counts : Map (ChunksExact Sign) F)
+        → EachRunFrom (map_steps (chunks_exact_steps {A = Sign}) g) counts (λ p. SomeRun (chunks_exact_steps {A = Sign}) pieces (λ q. IsMapRun p q g f))
+        → chunks_exact_size pieces ≡ (shape.degree + 1) * shape.stride → ActsAs g f (λ x. tally (negative_at (take shape.stride (drop (index * shape.stride) x.now))) 0 shape.stride)
+        → (p : Run (map_steps (chunks_exact_steps {A = Sign}) g)) → p.from ≡ counts → (sum p.items ≤ length signs) × (p.whole ≡ true → sum p.items ≡ tally (negative_in shape index signs) 0 (length signs))
+    negatives_of_blocks index l counts maps size acts p e =
+        let b : ℕ = (shape.degree + 1) * shape.stride in
         let (q, w, m) = maps p p.seen e in
-        let (u, v, stepped) = steps q q.seen w in
-        let (t, o, passed) = skips u u.seen v in
-        let by = subst (λ k. IsStepByRun q u (k + 1)) a stepped in
-        let past = subst (λ k. IsSkipRun u t k) i passed in
-        let z : chunks_exact_size t.from ≡ s = ap (chunks_exact_size {T = Sign}) o ∙ size in
-        let r = pieces_as t (chunks_exact_size t.from) s (chunks_exact_rest t.from) signs z (ap (chunks_exact_rest {T = Sign}) o ∙ rest) (cuts t t.seen (omega (arith, z, lie.some_stride))) in
-        let few : t.len < rows + 1 = lt_of_mul-lt-mul_right s (omega (arith, r.0, all, next_row s rows, lie.some_stride)) in
-        let most : q.len < shape.blocks + 1 = lt_of_mul-lt-mul_right (n + 1) (omega (arith, by.3, past.1, few, next_row (n + 1) shape.blocks)) in
-        let fits : q.len * b ≤ length signs = omega (arith, lie.all, mul-le-mul_right b (let h : q.len ≤ shape.blocks = omega arith in h)) in
-        sum_of_run g f p q m (λ x. tally (negative_at x.now) 0 (length x.now)) acts (negative_in shape index signs) b (length signs)
-        (λ k x. (length x.now ≡ s) × ((index + k * (n + 1)) * s + s ≤ length signs) × IsSubsliceAt s signs ((index + k * (n + 1)) * s) x.now)
-        (λ k. subst (λ x. IfSome x (λ x. (length x.now ≡ s) × ((index + k * (n + 1)) * s + s ≤ length signs) × IsSubsliceAt s signs ((index + k * (n + 1)) * s) x.now)) (sym (by.4 k ∙ past.3 (k * (n + 1)))) (r.2 (index + k * (n + 1))))
-        (λ k x h. negatives_of_row index l k x.now h.0 h.2)
-        fits
-        (λ h.
-        let every : t.len ≡ rows = r.1 (past.0 ∙ by.0 ∙ h) ∙ ap (λ c. c / s) (sym all) ∙ mul-div_cancel rows lie.some_stride in
-        let least : shape.blocks < q.len + 1 = lt_of_mul-lt-mul_right (n + 1) (omega (arith, by.2, past.1, every, next_row (n + 1) q.len)) in
-        ap (λ c. c * b) (let same : q.len ≡ shape.blocks = omega arith in same) ∙ lie.all)
+        let z : chunks_exact_size q.from ≡ b = ap (chunks_exact_size {T = Sign}) w ∙ size in
+        let r = pieces_as q (chunks_exact_size q.from) b (chunks_exact_rest q.from) signs z (ap (chunks_exact_rest {T = Sign}) w ∙ rest) (cuts q q.seen (omega (arith, z, some_block shape (length signs) lie))) in
+        sum_of_run g f p q m (λ x. tally (negative_at (take shape.stride (drop (index * shape.stride) x.now))) 0 shape.stride) acts (negative_in shape index signs) b (length signs)
+        (λ k x. (length x.now ≡ b) × (k * b + b ≤ length signs) × IsSubsliceAt b signs (k * b) x.now)
+        r.2
+        (λ k x h. negatives_of_block index l k x.now h.0 h.2)
+        r.0
+        (λ h. ap (λ l. l * b) (r.1 h ∙ ap (λ c. c / b) (sym lie.all) ∙ mul-div_cancel shape.blocks (some_block shape (length signs) lie)) ∙ lie.all)

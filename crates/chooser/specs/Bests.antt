@@ -8,6 +8,14 @@ use Rattle.chooser.specs.Best.{first_best}
 pub best_next : (beats : ℕ → ℕ → Bool) (n b : ℕ) → b ≡ first_best beats n → cond (beats n b) n b ≡ first_best beats (n + 1)
 best_next beats n b e = ap (λ m. cond (beats n m) n m) e ∙ sym (ap (first_best beats) (add-one n))
 
+-- ---- a loop over the axes: b is the best of the first n
+module _ (beats : ℕ → ℕ → Bool) (n b : ℕ) (e : b ≡ first_best beats n) where
+  pub best_takes : beats n b ≡ true → n ≡ first_best beats (n + 1)
+  best_takes h = ap (λ t. cond t n b) (sym h) ∙ best_next beats n b e
+
+  pub best_keeps : beats n b ≡ false → b ≡ first_best beats (n + 1)
+  best_keeps h = ap (λ t. cond t n b) (sym h) ∙ best_next beats n b e
+
 -- ---- what the first best is
 pub record First (beats : ℕ → ℕ → Bool) (n b : ℕ) : Type 0 where
   pub inside : b < n

@@ -1,9 +1,9 @@
 -- The number of a patch's numbers, by its parts.
-use Rattle.std.proofs.Common.{◌≡◌, ℕ, zero, suc, ◌+◌, ◌-◌, ◌*◌, ◌^◌, ◌<◌, ◌≤◌, Bool, true, false, ◌&&◌, ltb, List, [], ◌∷◌, length, get_or, take, drop, Some, None, sym, refl, ap, ◌∙◌, ap₂, mul_assoc, mul_comm, one-mul, mul-one, le-mul_of_pos_right, add-one, arith, ltb-false, ltb-true, le-ltb, lt-ltb}
+use Rattle.std.proofs.Common.{◌≡◌, ℕ, zero, suc, ◌+◌, ◌-◌, ◌*◌, ◌^◌, ◌<◌, ◌≤◌, Bool, true, false, ◌&&◌, ltb, List, [], ◌∷◌, length, get_or, take, drop, Some, None, sym, refl, ap, ◌∙◌, ap₂, mul_assoc, mul_comm, one-mul, mul-one, le-mul_of_pos_right, add-one, arith, ltb-false, ltb-true, le-ltb, lt-ltb, ⊎_elim}
 use Rattle.std.specs.Bool.{then_some}
 use Rattle.std.specs.List.{fold}
 use Rattle.std.proofs.lemmas.List.{take_rest}
-use Rattle.std.proofs.lemmas.Bool.{and_parts}
+use Rattle.std.proofs.lemmas.Bool.{and_parts, cases_lt}
 use Rattle.algebra.specs.Layout.{numbers, stride}
 use Rattle.algebra.proofs.Places.{numbers_positive}
 use Rattle.patch.specs.Shapes.{counted, shape_of, shaped}
@@ -43,6 +43,10 @@ module _ (ns : List ℕ) (j : ℕ) (l : j < length ns) where
       let n : 0 < get_or ns j 0 + 1 = omega arith in
       omega (arith, size_is ns j l, le-mul_of_pos_right (stride ns j) n, mul_comm (stride ns j) (get_or ns j 0 + 1), le-mul_of_pos_right ((get_or ns j 0 + 1) * stride ns j) (numbers_positive (take j ns)), mul_comm (numbers (take j ns)) ((get_or ns j 0 + 1) * stride ns j))
 
+  -- a block is no more than the whole patch
+  pub block_below : (get_or ns j 0 + 1) * stride ns j ≤ numbers ns
+  block_below = omega (arith, size_is ns j l, le-mul_of_pos_right ((get_or ns j 0 + 1) * stride ns j) (numbers_positive (take j ns)), mul_comm (numbers (take j ns)) ((get_or ns j 0 + 1) * stride ns j))
+
 -- the parts of the degrees as the code cuts them
 pub back_is : (ns : List ℕ) (j : ℕ) → j < length ns → numbers (take (length ns - (j + 1)) (drop (j + 1) ns)) ≡ stride ns j
 back_is ns j l = ap numbers (take_rest ns (j + 1)) ∙ stride_is ns j l
@@ -70,6 +74,17 @@ of_no_count ns e = ltb-false (numbers ns) (2 ^ 64) (none_is (ltb (numbers ns) (2
 
 pub shaped_is : (ns : List ℕ) (j : ℕ) (s : Shape) → j < length ns → numbers ns < 2 ^ 64 → s ≡ shape_of ns j → Some s ≡ shaped ns j
 shaped_is ns j s l n e = ap Some e ∙ ap₂ (λ a b. then_some (a && b) (shape_of ns j)) (sym (lt-ltb j (length ns) l)) (sym (lt-ltb (numbers ns) (2 ^ 64) n))
+
+never : {A : Type 0} (b : Bool) (x : A) → None ≡ then_some (b && false) x
+never true x = refl
+never false x = refl
+
+pub shaped_none : (ns : List ℕ) (j : ℕ) → 2 ^ 64 ≤ numbers ns → None ≡ shaped ns j
+shaped_none ns j l = never (ltb j (length ns)) (shape_of ns j) ∙ ap (λ b. then_some (ltb j (length ns) && b) (shape_of ns j)) (sym (le-ltb (numbers ns) (2 ^ 64) l))
+
+-- a product that no word holds
+pub not_held : (x : ℕ) → (x < 2 ^ 64 → ⊥) → 2 ^ 64 ≤ x
+not_held x h = ⊎_elim (λ l. absurd (h l)) (λ l. l) (cases_lt x (2 ^ 64))
 
 -- what a shape says
 pub of_shape : (ns : List ℕ) (j : ℕ) (s : Shape) → Some s ≡ shaped ns j → (j < length ns) × (numbers ns < 2 ^ 64) × (s ≡ shape_of ns j)

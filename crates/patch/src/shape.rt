@@ -19,9 +19,11 @@ impl Shape {
         ensures { result ≡ shaped degrees.now axis }
     {
         let degree = *degrees.get(axis)?;
-        let size = count(degrees)?;
         let blocks = count(&degrees[..axis])?;
         let stride = count(&degrees[axis + 1..])?;
+        // No third count: however many axes there are, each degree is looked at once.
+        let block = stride.checked_mul(usize::from(degree) + 1)?;
+        let size = blocks.checked_mul(block)?;
         Some(Shape {
             blocks,
             degree,
