@@ -1,26 +1,34 @@
 -- Sums and products that stop at the largest word: stopping on the way changes nothing.
-use Rattle.std.proofs.Common.{◌≡◌, ℕ, zero, suc, ◌+◌, ◌-◌, ◌*◌, ◌^◌, ◌<◌, ◌≤◌, List, [], ◌∷◌, map, zip, replicate, fold, sym, refl, ap, ◌∙◌, ⊎_elim, mul_assoc, mul_comm, mul-zero, mul-one, mul-suc, arith}
+use Rattle.std.proofs.Common.{◌≡◌, ℕ, zero, suc, ◌+◌, ◌-◌, ◌*◌, ◌^◌, ◌<◌, ◌≤◌, min, List, [], ◌∷◌, map, zip, replicate, fold, sym, refl, ap, ◌∙◌, ⊎_elim, mul_assoc, mul_comm, mul-zero, mul-one, mul-suc, arith}
 use native.Mathlib.Nat.{pow-succ', pow-zero}
 use Rattle.std.proofs.lemmas.Bool.{cases_lt}
 use Rattle.ticket.specs.Capped.{capped}
 use Rattle.ticket.specs.Sizes.{reach, power_reach}
 use Rattle.ticket.specs.declared.records.Axis.{Axis}
 
-large : (a b : ℕ) → 2 ^ 64 - 1 ≤ a → capped ((2 ^ 64 - 1) * b) ≡ capped (a * b)
-large a zero h = let e = mul-zero a in omega arith
-large a (suc b) h = let e = mul-suc a b in let f : (2 ^ 64 - 1) * suc b ≡ (2 ^ 64 - 1) * b + (2 ^ 64 - 1) = mul-suc (2 ^ 64 - 1) b in omega arith
+-- ---- a sum or a product that is cut on the way, at any cap
+pub cut_sum : (cap a b : ℕ) → min (min a cap + b) cap ≡ min (a + b) cap
+cut_sum cap a b = omega arith
 
-pub cut_product : (a b : ℕ) → capped (capped a * b) ≡ capped (a * b)
-cut_product a b =
-    ⊎_elim (λ l. let e : capped a ≡ a = omega arith in ap (λ x. capped (x * b)) e)
-    (λ l. let e : capped a ≡ 2 ^ 64 - 1 = omega arith in ap (λ x. capped (x * b)) e ∙ large a b l)
-    (cases_lt a (2 ^ 64 - 1))
+pub cut_sum_right : (cap a b : ℕ) → min (a + min b cap) cap ≡ min (a + b) cap
+cut_sum_right cap a b = omega arith
 
+large : (cap a b : ℕ) → cap ≤ a → min (cap * b) cap ≡ min (a * b) cap
+large cap a zero h = let e = mul-zero a in let f = mul-zero cap in omega arith
+large cap a (suc b) h = let e = mul-suc a b in let f = mul-suc cap b in omega arith
+
+pub cut_product : (cap a b : ℕ) → min (min a cap * b) cap ≡ min (a * b) cap
+cut_product cap a b =
+    ⊎_elim (λ l. let e : min a cap ≡ a = omega arith in ap (λ x. min (x * b) cap) e)
+    (λ l. let e : min a cap ≡ cap = omega arith in ap (λ x. min (x * b) cap) e ∙ large cap a b l)
+    (cases_lt a cap)
+
+-- ---- at the largest word
 pub cut_product_right : (a b : ℕ) → capped (a * capped b) ≡ capped (a * b)
-cut_product_right a b = ap capped (mul_comm a (capped b)) ∙ cut_product b a ∙ ap capped (mul_comm b a)
+cut_product_right a b = ap capped (mul_comm a (capped b)) ∙ cut_product (2 ^ 64 - 1) b a ∙ ap capped (mul_comm b a)
 
 pub cut_both : (a b : ℕ) → capped (capped a * capped b) ≡ capped (a * b)
-cut_both a b = cut_product a (capped b) ∙ cut_product_right a b
+cut_both a b = cut_product (2 ^ 64 - 1) a (capped b) ∙ cut_product_right a b
 
 cut : (n : ℕ) → capped n < 2 ^ 64
 cut n = omega arith
@@ -33,7 +41,7 @@ module _ {X : Type 0} (whole : List X → ℕ) (given : X → ℕ) where
   product_from factor none more same n h (x ∷ xs) =
       product_from factor none more same (capped (n * given x)) (cut (n * given x)) xs
       ∙ ap (λ k. capped (k * whole xs)) (same n x)
-      ∙ cut_product (n * factor x) (whole xs)
+      ∙ cut_product (2 ^ 64 - 1) (n * factor x) (whole xs)
       ∙ ap capped (mul_assoc n (factor x) (whole xs) ∙ ap (λ k. n * k) (sym (more x xs)))
 
   pub product_fold : (factor : X → ℕ) → whole [] ≡ 1 → ((x : X) (xs : List X) → whole (x ∷ xs) ≡ factor x * whole xs) → ((n : ℕ) (x : X) → capped (n * given x) ≡ capped (n * factor x))
@@ -60,7 +68,7 @@ power_from : (b n k : ℕ) → k < 2 ^ 64 → fold (λ p y. capped (p * y)) k (r
 power_from b zero k h = let e : k * 1 ≡ k = mul-one k in let f : k ≡ capped k = omega arith in f ∙ ap capped (sym e) ∙ ap (λ j. capped (k * j)) (sym (pow-zero b))
 power_from b (suc n) k h =
     power_from b n (capped (k * b)) (cut (k * b))
-    ∙ cut_product (k * b) (b ^ n)
+    ∙ cut_product (2 ^ 64 - 1) (k * b) (b ^ n)
     ∙ ap capped (mul_assoc k b (b ^ n) ∙ ap (λ j. k * j) (sym (pow-succ' b n)))
 
 pub power_fold : (b n : ℕ) → fold (λ p y. capped (p * y)) 1 (replicate n b) ≡ capped (b ^ n)
