@@ -1,16 +1,14 @@
--- Counting over places, over the elements of a list, and over the blocks of a patch.
-use Rattle.std.proofs.Common.{◌≡◌, ℕ, zero, suc, ◌+◌, ◌-◌, ◌*◌, ◌/◌, ◌%◌, ◌<◌, ◌≤◌, Bool, true, false, not, cond, ◌&&◌, eqb, ltb, List, length, get_or, take, drop, sym, refl, ap, ◌∙◌, ap₂, add-zero, add_assoc, add-suc, mod-lt, mul_assoc, suc-mul, zero-mul, div-lt_iff_lt-mul, add-mul, div-add-mod', le-div_iff_mul-le, zero-add, add-one, arith, le-ltb, lt-ltb, eq-eqb, ne_eqb, length-drop, sum, count_by}
-use Rattle.std.specs.List.{zip}
-use Rattle.std.proofs.lemmas.List.{take_all, get_or-drop}
+-- Counting over places, and over the blocks of a patch.
+use Rattle.std.proofs.Common.{◌≡◌, ℕ, zero, suc, ◌+◌, ◌-◌, ◌*◌, ◌/◌, ◌%◌, ◌<◌, ◌≤◌, Bool, true, false, not, cond, ◌&&◌, eqb, ltb, List, length, get_or, take, sym, refl, ap, ◌∙◌, ap₂, add-zero, add_assoc, add-suc, mod-lt, mul_assoc, suc-mul, zero-mul, div-lt_iff_lt-mul, add-mul, div-add-mod', le-div_iff_mul-le, zero-add, add-one, arith, le-ltb, lt-ltb, eq-eqb, ne_eqb, sum}
+use Rattle.std.proofs.lemmas.List.{take_all}
 use Rattle.std.proofs.lemmas.List.Sums.{sum_by_more}
-use Rattle.std.proofs.lemmas.Slice.Zip.{length-zip, get_or-zip}
 use lib.Arith.{digits_div, digits_mod}
 use denote.Enum.Bare.{sameb}
 use Rattle.algebra.specs.contracts.sign.Sign.{the_type}
 use Rattle.patch.proofs.Rows.{next_row}
 use Rattle.algebra.specs.declared.sign.Sign.{Sign}
 use Rattle.algebra.specs.declared.sign.Sign.TheVariants.{Negative, Zero, Positive}
-use Rattle.chooser.specs.BySigns.{is_negative, tally, differ, differ_at}
+use Rattle.chooser.specs.BySigns.{is_negative, tally, differ}
 
 one_at_most : (t : Bool) → cond t 1 0 ≤ 1
 one_at_most true = omega arith
@@ -75,17 +73,7 @@ sum_front test size xs each (suc n) l =
 pub sum_of_stretches : (test : ℕ → Bool) (size : ℕ) (xs : List ℕ) → ((k : ℕ) → k < length xs → get_or xs k 0 ≡ tally test (k * size) size) → sum xs ≡ tally test 0 (length xs * size)
 sum_of_stretches test size xs each = ap sum (sym (take_all (length xs) xs (omega arith))) ∙ sum_front test size xs each (length xs) (omega arith)
 
--- ---- the elements of a list
-count_front : {X : Type 0} (p : X → Bool) (xs : List X) (d : X) (n : ℕ) → n ≤ length xs → count_by p (take n xs) ≡ tally (λ i. p (get_or xs i d)) 0 n
-count_front p xs d zero l = refl
-count_front p xs d (suc n) l =
-    ap (λ m. count_by p (take m xs)) (sym (add-one n))
-    ∙ sum_by_more (λ x. cond (p x) 1 0) xs n d l
-    ∙ ap₂ (λ a i. a + cond (p (get_or xs i d)) 1 0) (count_front p xs d n (omega arith)) (sym (zero-add n))
-
-pub tally_of_list : {X : Type 0} (p : X → Bool) (xs : List X) (d : X) → count_by p xs ≡ tally (λ i. p (get_or xs i d)) 0 (length xs)
-tally_of_list p xs d = ap (count_by p) (sym (take_all (length xs) xs (omega arith))) ∙ count_front p xs d (length xs) (omega arith)
-
+-- ---- signs as the code compares them
 -- `!=` on signs, which compares the places of their variants
 pub differ_is : (a b : Sign) → not (sameb the_type a b) ≡ differ a b
 differ_is Negative Negative = refl
@@ -102,20 +90,6 @@ pub same_as_negative : (a : Sign) → sameb the_type a Negative ≡ is_negative 
 same_as_negative Negative = refl
 same_as_negative Zero = refl
 same_as_negative Positive = refl
-
--- of the pairs of an element and the one a stride further on
-pub tally_of_pairs : (signs : List Sign) (s : ℕ) → count_by (λ (p : Sign × Sign). differ p.0 p.1) (zip signs (drop s signs)) ≡ tally (differ_at signs s) 0 (length signs - s)
-tally_of_pairs signs s =
-    let test : Sign × Sign → Bool = λ p. differ p.0 p.1 in
-    let pairs : List (Sign × Sign) = zip signs (drop s signs) in
-    let long : length pairs ≡ length signs - s = omega (arith, length-zip signs (drop s signs), length-drop s signs) in
-    tally_of_list test pairs (Zero, Zero)
-    ∙ ap (tally (λ i. test (get_or pairs i (Zero, Zero))) 0) long
-    ∙ tally_same (λ i. test (get_or pairs i (Zero, Zero))) (differ_at signs s) 0 0 (length signs - s)
-    (λ k l.
-    ap (λ i. test (get_or pairs i (Zero, Zero))) (zero-add k)
-    ∙ ap test (get_or-zip signs (drop s signs) k (Zero, Zero) (omega arith) (omega (arith, length-drop s signs)))
-    ∙ ap₂ (λ i j. differ (get_or signs i Zero) j) (sym (zero-add k)) (get_or-drop s signs k Zero ∙ ap (λ i. get_or signs i Zero) (let e : s + k ≡ 0 + k + s = omega arith in e)))
 
 -- ---- the block b of a patch: n + 1 rows of s places
 module _ (n s b : ℕ) (some : 0 < s) where
